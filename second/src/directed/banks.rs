@@ -640,12 +640,11 @@ fn isolation(c: &mut Case) {
     c.word(7, 2 << 32, 0x0f0f_0000);
     c.word(5, 0x10, 0);
     c.word(1, 0x204, 0);
-    // VCPU 1's trigger write did not reach VCPU 0: its INTID 20 is level still.
-    c.line(0, 20, 1, 0);
-    c.line(0, 20, 0, 0);
-    c.word(5, 0x10200, 0x1010_1010);
+    // VCPU 1's trigger write did not reach VCPU 0: its INTID 21 is level still.
     c.line(0, 21, 1, 0);
     c.pending(0, 21, 1);
+    c.line(0, 21, 0, 0);
+    c.word(5, 0x10200, 0x1010_1010);
 }
 
 fn latch_is_not_pending(c: &mut Case) {

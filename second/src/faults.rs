@@ -1,0 +1,1 @@
+pub fn run(_folder: &str) -> i32 { 0 }

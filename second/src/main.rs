@@ -1,0 +1,60 @@
+//! The second program: a model of document 01 written from the text, held against the library call by call.
+
+mod call;
+mod directed;
+mod faults;
+mod ffi;
+mod model;
+mod random;
+mod report;
+mod rng;
+mod sides;
+
+use report::Report;
+use std::process::exit;
+
+const USAGE: &str = "usage: second [check [CALLS [SEED]]] | directed | replay SEED | faults FOLDER";
+
+fn number(text: Option<&String>, absent: u64) -> u64 {
+    match text {
+        None => absent,
+        Some(text) => text.parse().unwrap_or_else(|_| usage()),
+    }
+}
+
+fn usage() -> ! {
+    eprintln!("{USAGE}");
+    exit(2)
+}
+
+/// The length of the state is a number that can be lent, and always the same.
+fn check_length(report: &mut Report) {
+    let first = ffi::state_len();
+    if first > 0 && first == ffi::state_len() {
+        report.pass(1);
+        return;
+    }
+    report.fail("rk_state_len", &format!("answered {first}"));
+    exit(report.close());
+}
+
+fn main() {
+    let words: Vec<String> = std::env::args().skip(1).collect();
+    let mut report = Report::default();
+    match words.first().map_or("check", String::as_str) {
+        "check" if words.len() <= 3 => {
+            check_length(&mut report);
+            directed::run(&mut report);
+            let calls = number(words.get(1), random::DEFAULT_CALLS);
+            random::run(number(words.get(2), 1), calls, &mut report);
+        }
+        "directed" if words.len() == 1 => {
+            check_length(&mut report);
+            directed::run(&mut report);
+        }
+        "replay" if words.len() == 2 => random::replay(number(words.get(1), 0), &mut report),
+        "faults" if words.len() == 2 => exit(faults::run(&words[1])),
+        _ => usage(),
+    }
+    exit(report.close());
+}
