@@ -10,10 +10,10 @@ mod report;
 mod rng;
 mod sides;
 
-use report::Report;
+use report::{Kind, Report};
 use std::process::exit;
 
-const USAGE: &str = "usage: second [check [CALLS [SEED]]] | directed | replay SEED | faults FOLDER";
+const USAGE: &str = "usage: second [check [CALLS [SEED]]] | directed | hunt | replay SEED | faults FOLDER";
 
 fn number(text: Option<&String>, absent: u64) -> u64 {
     match text {
@@ -34,7 +34,7 @@ fn check_length(report: &mut Report) {
         report.pass(1);
         return;
     }
-    report.fail("rk_state_len", &format!("answered {first}"));
+    report.fail(Kind::DirectedLibrary, "rk_state_len", &format!("answered {first}"));
     exit(report.close());
 }
 
@@ -46,7 +46,12 @@ fn main() {
             check_length(&mut report);
             directed::run(&mut report);
             let calls = number(words.get(1), random::DEFAULT_CALLS);
-            random::run(number(words.get(2), 1), calls, &mut report);
+            random::run(number(words.get(2), 1), calls, false, &mut report);
+        }
+        // The gate's budget, but sequences end with the first difference: for planted faults.
+        "hunt" if words.len() == 1 => {
+            directed::run(&mut report);
+            random::run(1, random::DEFAULT_CALLS, true, &mut report);
         }
         "directed" if words.len() == 1 => {
             check_length(&mut report);

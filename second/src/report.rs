@@ -1,12 +1,20 @@
 //! Counts what passed and what failed, and prints the first differences.
 
-/// More than this many are counted, but not printed.
-const PRINTED: u64 = 25;
+/// More than this many of a kind are counted, but not printed.
+const PRINTED: u64 = 10;
+
+/// Which part of the program saw a difference.
+#[derive(Clone, Copy, PartialEq, Eq)]
+pub enum Kind {
+    DirectedLibrary,
+    DirectedModel,
+    Random,
+}
 
 #[derive(Default)]
 pub struct Report {
-    pub passed: u64,
-    pub failed: u64,
+    passed: u64,
+    failed: [u64; 3],
 }
 
 impl Report {
@@ -14,19 +22,26 @@ impl Report {
         self.passed += count;
     }
 
-    pub fn fail(&mut self, title: &str, note: &str) {
-        self.failed += 1;
-        if self.failed <= PRINTED {
+    pub fn fail(&mut self, kind: Kind, title: &str, note: &str) {
+        let failed = &mut self.failed[kind as usize];
+        *failed += 1;
+        if *failed <= PRINTED {
             println!("difference: {title}\n  {note}");
-        }
-        if self.failed == PRINTED {
-            println!("further differences are counted, not printed");
         }
     }
 
-    /// The last line of every run, and its exit status.
+    pub fn differs(&self, kind: Kind) -> bool {
+        self.failed[kind as usize] > 0
+    }
+
+    /// The last lines of every run, and its exit status.
     pub fn close(&self) -> i32 {
-        println!("second: {} passed, {} failed", self.passed, self.failed);
-        (self.failed > 0) as i32
+        let [library, model, random] = self.failed;
+        let failed = library + model + random;
+        if failed > 0 {
+            println!("differences: {library} directed library, {model} directed model, {random} random");
+        }
+        println!("second: {} passed, {failed} failed", self.passed);
+        (failed > 0) as i32
     }
 }

@@ -8,7 +8,6 @@ use crate::model::Model;
 pub trait Side {
     /// Makes the call; complaints about broken promises are added to the list.
     fn call(&mut self, call: &Call, lent: &mut [u8], complaints: &mut Vec<String>) -> i64;
-    fn label(&self) -> &'static str;
 }
 
 /// Bytes with a margin on both sides, so that a write next to them is seen.
@@ -94,10 +93,6 @@ impl Side for Library {
         lent.copy_from_slice(value.content());
         answer
     }
-
-    fn label(&self) -> &'static str {
-        "library"
-    }
 }
 
 impl Side for Model {
@@ -107,9 +102,5 @@ impl Side for Model {
         let answer = Model::call(self, call, lent);
         around(call, answer, *self == state_before, *lent == *lent_before, complaints);
         answer
-    }
-
-    fn label(&self) -> &'static str {
-        "model"
     }
 }

@@ -73,6 +73,10 @@ noBank = record { latch = 0; level = 0; trigger = 0 }
 abbrev pub noVcpu : ℕ → Vcpu
 noVcpu affinity = record { affinity = affinity; bank = record { latch = 0; level = 0; trigger = 65535 }; status = 0 }
 
+-- no region: what stands past the last one
+abbrev pub noRegion : Region
+noRegion = record { base = 0; count = 0 }
+
 -- how many shared banks an interrupt count has
 abbrev pub sharedCount : ℕ → ℕ
 sharedCount irqs = irqs / 32 - 1

@@ -135,3 +135,7 @@ drop-putAt-past s at bs k h g =
     ∙ drop-append-add (take at s ++ bs) (drop (at + length bs) s) (k - (at + length bs))
     ∙ drop-drop (k - (at + length bs)) (at + length bs) s
     ∙ ap (λ (i : ℕ). drop i s) e
+
+-- a number that was read is a number of the part that holds it
+pub read-in : (s : List ℕ) (at z off n k r : ℕ) → Read s k n r → k ≡ at + off → off + n ≤ z → r ≡ leAt (take z (drop at s)) off n
+read-in s at z off n k r h e f = h .is ∙ ap (λ (i : ℕ). leAt s i n) e ∙ sym (leAt-in s at z off n f)

@@ -10,8 +10,8 @@ use lib.ListN.{length, getD, set, take, drop, length-append, length-set}
 use lib.Seq.{drop-drop, take-suc, take-at, drop-at, ext-getD, getD-take, getD-set-same, getD-set-other, length-take-le}
 use Rattle.lists.proofs.All.{All, none, more}
 use borrow.Author.Count.{below-more}
-use Rattle.words.specs.Words.{putAt, rowsOf, bytesAll}
-use Rattle.words.proofs.Laws.{put-next, putAt-none}
+use Rattle.words.specs.Words.{putAt, rowsOf, bytesAll, bytesOf}
+use Rattle.words.proofs.Laws.{put-next, putAt-none, length-bytesOf}
 
 module _ {A : Type 0} where
   pub length-rowsOf : (p : List ℕ → A) (z n : ℕ) (s : List ℕ) → length (rowsOf p z n s) ≡ n
@@ -115,3 +115,15 @@ module _ {A : Type 0} where
         (ap p (take-at (b x) (bytesAll b xs ++ t) z (sized x)) ∙ back x g)
         ∙ ap (λ (r : List A). x ∷ r)
         (ap (rowsOf p z (length xs)) (drop-at (b x) (bytesAll b xs ++ t) z (sized x)) ∙ rows-back p Good back xs t gs))
+
+-- runs of numbers of n bytes, stored one after the other
+pub run-one : (n : ℕ) (s u : List ℕ) (at v : ℕ) → u ≡ putAt s at (bytesOf n v) → u ≡ putAt s at (bytesAll (bytesOf n) (v ∷ []))
+unfolding bytesAll
+run-one n s u at v p = p ∙ ap (putAt s at) (sym (append-nil (bytesOf n v)))
+
+pub run-more : (n : ℕ) (s t u : List ℕ) (at k : ℕ) (ws vs : List ℕ) → length ws * n ≡ k → at + k ≤ length s
+    → t ≡ putAt s at (bytesAll (bytesOf n) ws) → u ≡ putAt t (at + k) (bytesAll (bytesOf n) vs)
+    → u ≡ putAt s at (bytesAll (bytesOf n) (ws ++ vs))
+run-more n s t u at k ws vs l h p q =
+    put-next s t u at k _ _ (length-bytesAll (bytesOf n) n (length-bytesOf n) ws ∙ l) h p q
+    ∙ ap (putAt s at) (sym (bytesAll-append (bytesOf n) ws vs))

@@ -14,7 +14,7 @@ mod numbers;
 mod restore;
 
 use crate::model::Model;
-use crate::report::Report;
+use crate::report::{Kind, Report};
 use crate::sides::{Library, Side};
 use case::Case;
 
@@ -37,18 +37,18 @@ fn all() -> Vec<Row> {
 
 pub fn run(report: &mut Report) {
     for (name, body) in all() {
-        run_one(&mut Library::new(&vec![0x5a; Library::len()]), name, body, report);
-        run_one(&mut Model::default(), name, body, report);
+        run_one(&mut Library::new(&vec![0x5a; Library::len()]), Kind::DirectedLibrary, name, body, report);
+        run_one(&mut Model::default(), Kind::DirectedModel, name, body, report);
     }
 }
 
-fn run_one(side: &mut dyn Side, name: &str, body: fn(&mut Case), report: &mut Report) {
-    let label = side.label();
+fn run_one(side: &mut dyn Side, kind: Kind, name: &str, body: fn(&mut Case), report: &mut Report) {
+    let label = if kind == Kind::DirectedModel { "model" } else { "library" };
     let mut case = Case::new(side);
     case.setup(40, 0x4000_0000, 0x10_0000, 0);
     body(&mut case);
     match case.notes.first() {
         None => report.pass(1),
-        Some(note) => report.fail(&format!("directed {label}: {name}"), note),
+        Some(note) => report.fail(kind, &format!("directed {label}: {name}"), note),
     }
 }

@@ -21,7 +21,7 @@ pub fn live(pair: &mut Pair) {
         body(pair, length);
     }
     pair.probe();
-    let deep = pair.rng.one_in(6);
+    let deep = pair.rng.one_in(8);
     observe::look(pair, deep);
 }
 

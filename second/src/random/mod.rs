@@ -14,17 +14,17 @@ mod pair;
 mod pick;
 mod plan;
 
-use crate::report::Report;
+use crate::report::{Kind, Report};
 use pair::Pair;
 
 /// The gate's number of calls in sequences.
-pub const DEFAULT_CALLS: u64 = 400_000;
+pub const DEFAULT_CALLS: u64 = 250_000;
 
-/// Runs sequences from `seed` on until they have made `calls` calls.
-pub fn run(seed: u64, calls: u64, report: &mut Report) {
+/// Runs sequences from `seed` on until they have made `calls` calls; a hunt ends with the first difference.
+pub fn run(seed: u64, calls: u64, hunt: bool, report: &mut Report) {
     let mut made = 0;
     let mut number = seed;
-    while made < calls {
+    while made < calls && !(hunt && report.differs(Kind::Random)) {
         made += one(number, false, report);
         number += 1;
     }
@@ -44,7 +44,8 @@ fn one(seed: u64, tell: bool, report: &mut Report) -> u64 {
         None => report.pass(pair.step),
         Some(note) => {
             report.pass(pair.step.saturating_sub(1));
-            report.fail(&format!("random seed {seed} step {} (second replay {seed})", pair.step), note);
+            let title = format!("random seed {seed} step {} (second replay {seed})", pair.step);
+            report.fail(Kind::Random, &title, note);
         }
     }
     pair.step

@@ -21,10 +21,10 @@ pub fn look(pair: &mut Pair, deep: bool) {
         let (vcpus, banks) = extent(pair, deep);
         questions.extend(redist_bases(pair));
         for vcpu in &vcpus {
-            questions.extend(private_bank(pair, *vcpu));
+            questions.extend(private_bank(pair, *vcpu, deep));
         }
         for bank in banks {
-            questions.extend(shared_bank(pair, bank));
+            questions.extend(shared_bank(pair, bank, deep));
         }
         questions.extend(status_words(pair, &vcpus));
     }
@@ -44,10 +44,15 @@ fn ask(pair: &mut Pair, model: &mut Model, library: &mut Library, questions: Vec
 
 fn extent(pair: &mut Pair, deep: bool) -> (Vec<u64>, Vec<u64>) {
     if deep {
-        return ((0..pair.guest().vcpus.len() as u64).collect(), (1..32).collect());
+        // Up to eight VCPUs, each as likely as the others: a bank costs some 45 calls.
+        let mut vcpus: Vec<u64> = (0..pair.guest().vcpus.len() as u64).collect();
+        pair.rng.shuffle(&mut vcpus);
+        vcpus.truncate(8);
+        return (vcpus, (1..32).collect());
     }
     let banks = pair.intids.iter().map(|intid| intid / 32).filter(|bank| *bank > 0).take(1).collect();
-    (pair.vcpus[..1].to_vec(), banks)
+    // A set-up in between may have left fewer VCPUs than the focus was drawn from.
+    (vec![pair.vcpus[0] % pair.guest().vcpus.len() as u64], banks)
 }
 
 fn get(device: Device, group: u64, attribute: u64, preset: u64, width: usize) -> Question {
@@ -88,23 +93,30 @@ fn status_words(pair: &Pair, vcpus: &[u64]) -> Vec<Question> {
     vcpus.iter().map(|vcpu| get(Device::Vgic, 5, affinity(vcpu) | 0x10, 0, 4)).collect()
 }
 
+/// The banks' words are asked for whole; interrupts one by one, all 32 or every fifth from a place drawn.
+fn some_of(pair: &mut Pair, vcpu: u64, first: u64, all: bool) -> Vec<Question> {
+    let step = if all { 1 } else { 5 };
+    let from = pair.rng.below(step);
+    (first + from..first + 32).step_by(step as usize).map(|intid| (Call::Pending { vcpu, intid }, vec![])).collect()
+}
+
 /// Latch, level and pending of a bank, then its trigger bits: with every level up and no latch, level interrupts alone
 /// are pending.
-fn bank_questions(vcpu: u64, first: u64, group: u64, latch: u64, level: u64) -> Vec<Question> {
-    let pending = || (first..first + 32).map(|intid| (Call::Pending { vcpu, intid }, vec![]));
+fn bank_questions(pair: &mut Pair, vcpu: u64, first: u64, latch: (u64, u64), level: u64, deep: bool) -> Vec<Question> {
+    let (group, latch) = latch;
     let mut list = vec![get(Device::Vgic, group, latch, 0x55, 4), get(Device::Vgic, 7, level, 0x55, 4)];
-    list.extend(pending());
+    list.extend(some_of(pair, vcpu, first, false));
     list.push(put(group, latch, 0));
     list.push(put(7, level, u32::MAX));
-    list.extend(pending());
+    list.extend(some_of(pair, vcpu, first, deep));
     list
 }
 
-fn private_bank(pair: &Pair, vcpu: u64) -> Vec<Question> {
+fn private_bank(pair: &mut Pair, vcpu: u64, deep: bool) -> Vec<Question> {
     let affinity = (pair.guest().vcpus[vcpu as usize].affinity as u64) << 32;
-    bank_questions(vcpu, 0, 5, affinity | 0x10200, affinity)
+    bank_questions(pair, vcpu, 0, (5, affinity | 0x10200), affinity, deep)
 }
 
-fn shared_bank(_pair: &Pair, bank: u64) -> Vec<Question> {
-    bank_questions(0, 32 * bank, 1, 0x200 + 4 * bank, 32 * bank)
+fn shared_bank(pair: &mut Pair, bank: u64, deep: bool) -> Vec<Question> {
+    bank_questions(pair, 0, 32 * bank, (1, 0x200 + 4 * bank), 32 * bank, deep)
 }

@@ -71,12 +71,6 @@ impl Pair {
         }
     }
 
-    pub fn tell(&self, text: &str) {
-        if self.tell {
-            println!("      {text}");
-        }
-    }
-
     /// Soundness probe on a copy of the live state: start answers 0 or -6 on sound bytes.
     pub fn probe(&mut self) {
         let answer = probe(self.library.state.content());
