@@ -1,3 +1,5 @@
 pub mod Counts
 pub mod Sizes
 pub mod Stored
+pub mod Round
+pub mod Typed
