@@ -1,6 +1,6 @@
 -- The guest's state as bytes, little endian. From 0: 23 words of 8 bytes, with the number of regions and of VCPUs last; from 184:
 -- regions, 16 bytes each, room for 32; from 696: VCPUs, 20 bytes each, room for 64; from 1,976: shared banks, 12 bytes each, room for
--- 31, as many as the interrupt count has; from 2,352 the mapping: its three counts of 8 bytes, then room for 32 devices of 16 bytes,
+-- 31, as many as the interrupt count has; from 2,352 the mapping: its three counts of 8 bytes, then room for 32 devices of 24 bytes,
 -- 16 collections of 4 and 1,024 events of 8. What lies past a table's last row is never read, and stays as it is.
 use Prim.Native.Nat.{ℕ, _+_}
 use mathlib.Core.Path.{_≡_}
@@ -21,7 +21,7 @@ use Rattle.guest.specs.declared.Tables.{Tables}
 use Rattle.guest.specs.Machine.{Machine, sharedCount}
 
 abbrev pub size : ℕ
-size = 11144
+size = 11400
 
 -- the words of each part, and the part that such words stand for
 abbrev pub memoryWords : Memory → List ℕ
