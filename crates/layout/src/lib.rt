@@ -375,3 +375,11 @@ pub fn store_guest(s: &mut [u8], g: Guest)
     store_regions(s, region_rows, regions.count);
     store_head(s, memory, control, frames, tables, regions.count as u64, vcpus.count as u64);
 }
+
+// No device, no collection, no event.
+pub fn clear_mapping(s: &mut [u8])
+    requires { ⌜ length (now s) ≡ size ⌝ }
+    ensures { λ _. ⌜ now (s .exit) ≡ putAt (now (s .entry)) 2352 (bytesAll (bytesOf 8) (0 ∷ 0 ∷ 0 ∷ [])) ⌝ }
+{
+    store_three(s, 2352, 0, 0, 0);
+}

@@ -6,7 +6,7 @@ use native.Mathlib.Omega.{arith}
 use mathlib.Core.Path.{_≡_, refl, sym, ap, _∙_, subst}
 use mathlib.Core.List.{List, [], _∷_, _++_, append-assoc, append-nil}
 use lib.ListN.{length, getD, set, take, drop, length-append, length-take, length-drop, take-append-drop}
-use lib.Seq.{take-nil, take-take, drop-length, set-split, take-add, drop-drop, take-suc, drop-cons, length-take-le, take-at, drop-at, drop-append-add, getD-drop, drop-append-seam}
+use lib.Seq.{take-all, take-suc-set, take-nil, take-take, drop-length, set-split, take-add, drop-drop, take-suc, drop-cons, length-take-le, take-at, drop-at, drop-append-add, getD-drop, drop-append-seam}
 use lib.Dec.{lit<}
 use Rattle.words.specs.Words.{le, leAt, bytesOf, putAt, rowsOf, bytesAll, Read}
 
@@ -139,3 +139,19 @@ drop-putAt-past s at bs k h g =
 -- a number that was read is a number of the part that holds it
 pub read-in : (s : List ℕ) (at z off n k r : ℕ) → Read s k n r → k ≡ at + off → off + n ≤ z → r ≡ leAt (take z (drop at s)) off n
 read-in s at z off n k r h e f = h .is ∙ ap (λ (i : ℕ). leAt s i n) e ∙ sym (leAt-in s at z off n f)
+
+-- a loop that fills a slice: one byte more
+pub fill-turn : (s : List ℕ) (n i rest : ℕ) → i < n → length s ≡ n
+    → take (i + 1) (set s i (rest % 256)) ++ bytesOf (n - (i + 1)) (rest / 256) ≡ take i s ++ bytesOf (n - i) rest
+unfolding bytesOf
+fill-turn s n i rest h l =
+    let e : n - i ≡ suc (n - (i + 1)) = omega arith in
+    let g : i < length s = omega arith in
+    rw (e, add-one, take-suc-set s i (rest % 256) g) (append-assoc (take i s) (rest % 256 ∷ []) (bytesOf (n - suc i) (rest / 256)))
+
+pub fill-end : (s : List ℕ) (n i rest v : ℕ) → n ≤ i → length s ≡ n → take i s ++ bytesOf (n - i) rest ≡ bytesOf n v → s ≡ bytesOf n v
+unfolding bytesOf
+fill-end s n i rest v h l p =
+    let z : n - i ≡ 0 = omega arith in
+    let q : take i s ++ [] ≡ bytesOf n v = rw z at p in
+    sym (take-all i s (omega arith)) ∙ sym (append-nil (take i s)) ∙ q

@@ -1,0 +1,6 @@
+pub mod Steps
+pub mod Rows
+pub mod Known
+pub mod Names
+pub mod Faults
+pub mod Locate

@@ -1,0 +1,3 @@
+pub mod Vcpus
+pub mod Bases
+pub mod Init

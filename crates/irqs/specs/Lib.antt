@@ -1,0 +1,4 @@
+pub mod Bank
+pub mod Spots
+pub mod Irqs
+pub mod Registers

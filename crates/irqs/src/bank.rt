@@ -1,0 +1,102 @@
+// One bank of 32 interrupts, by value: interrupt i of it is bit i of each word.
+use fields::field_get;
+use fields::field_put;
+use guest::Bank;
+ghost use mathlib.Core.Path.{_≡_};
+ghost use Prim.Native.Nat.{_<_, _≤_};
+ghost use Rattle.irqs.specs.Bank.{
+  withLatch,
+  withLevel,
+  withTrigger,
+  pending,
+  raised,
+  lowered,
+  rises,
+  lined,
+};
+
+// An edge interrupt is pending by its latch alone: what its line holds now is no news.
+pub fn pending(b: Bank, i: u32) -> u64
+    requires { ⌜ i < 32 ⌝ }
+    ensures { λ r. ⌜ r ≡ pending b i ⌝ }
+{
+    let latch = field_get(b.latch, i, 1);
+    if field_get(b.trigger, i, 1) == 1 {
+        return latch;
+    }
+    if latch == 1 {
+        return 1;
+    }
+    field_get(b.level, i, 1)
+}
+
+// The words of a bank, replaced one at a time.
+pub fn with_latch(b: Bank, word: u64) -> Bank
+    ensures { λ r. ⌜ r ≡ withLatch word b ⌝ }
+{
+    Bank {
+        latch: word,
+        level: b.level,
+        trigger: b.trigger,
+    }
+}
+
+pub fn with_level(b: Bank, word: u64) -> Bank
+    ensures { λ r. ⌜ r ≡ withLevel word b ⌝ }
+{
+    Bank {
+        latch: b.latch,
+        level: word,
+        trigger: b.trigger,
+    }
+}
+
+pub fn with_trigger(b: Bank, word: u64) -> Bank
+    ensures { λ r. ⌜ r ≡ withTrigger word b ⌝ }
+{
+    Bank {
+        latch: b.latch,
+        level: b.level,
+        trigger: word,
+    }
+}
+
+pub fn raised(b: Bank, i: u32) -> Bank
+    requires { ⌜ i < 32 ⌝ }
+    ensures { λ r. ⌜ r ≡ raised i b ⌝ }
+{
+    with_latch(b, field_put(b.latch, i, 1, 1))
+}
+
+pub fn lowered(b: Bank, i: u32) -> Bank
+    requires { ⌜ i < 32 ⌝ }
+    ensures { λ r. ⌜ r ≡ lowered i b ⌝ }
+{
+    with_latch(b, field_put(b.latch, i, 1, 0))
+}
+
+// Whether a line that goes to level latches: a rise from the stored level, of an edge interrupt.
+fn rises(b: Bank, i: u32, level: u64) -> bool
+    requires { ⌜ i < 32 ⌝ }
+    ensures { λ r. ⌜ r ≡ rises i level b ⌝ }
+{
+    if field_get(b.trigger, i, 1) != 1 {
+        return false;
+    }
+    if field_get(b.level, i, 1) != 0 {
+        return false;
+    }
+    level == 1
+}
+
+// The new level is stored, and a rise is latched by what the bank held before.
+pub fn lined(b: Bank, i: u32, level: u64) -> Bank
+    requires { ⌜ (i < 32) × (level ≤ 1) ⌝ }
+    ensures { λ r. ⌜ r ≡ lined i level b ⌝ }
+{
+    let word = field_put(b.level, i, 1, level);
+    if rises(b, i, level) {
+        return with_level(raised(b, i), word);
+    }
+    with_level(b, word)
+}

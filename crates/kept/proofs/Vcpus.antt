@@ -1,0 +1,293 @@
+-- The fresh guest, adding VCPUs, the running mark, the interrupt count, ITS INIT and RESET keep the rules.
+use Prim.Native.Nat.{ℕ, zero, suc, _≤_, _<_, _^_}
+use native.Mathlib.Omega.{arith}
+use mathlib.Core.Path.{_≡_, refl, sym, ap, _∙_}
+use mathlib.Core.Bool.{Bool, true, false, _&&_, _||_, not}
+use mathlib.Core.List.{List, [], _∷_, _++_, append-nil}
+use lib.ListN.{length, replicate, length-append, length-replicate}
+use lib.Dec.{leb, eqb, lit<, lit≤}
+use borrow.Author.Tests.{leb-false, le-leb, eqb-true, eqb-false, eq-eqb, ne-eqb}
+use Rattle.lists.specs.Rows.{all}
+use Rattle.lists.proofs.All.{All, none, more, all-append, from-all, to-all}
+use Rattle.fields.specs.Field.{getField}
+use Rattle.guest.specs.declared.Control.{Control}
+use Rattle.guest.specs.declared.Vcpu.{Vcpu}
+use Rattle.guest.specs.declared.Bank.{Bank}
+use Rattle.guest.specs.Machine.{Machine, initialised, isSet, isRunning, noVcpu, noBank, noTables, unplaced, unset, sharedCount, fresh, withControl, withShared, withTables, withVcpus}
+use Rattle.areas.specs.Area.{apart, overlaps}
+use Rattle.rules.specs.Standing.{standing}
+use Rattle.rules.specs.Rules.{memoryOk, irqsOk, frameOk, framesOk, initOk, hasAffinity, taken, distinct, vcpuOk, vcpusOk, tableOk, tablesOk}
+use Rattle.frames.specs.Vcpus.{addVcpu, setRunning, setIrqs, itsInit, itsReset}
+use Rattle.guest.specs.Words.{FrameWords, BankWords, TableWords}
+use Rattle.kept.specs.Good.{Good, Stays, Keeps}
+use Rattle.kept.proofs.Choice.{choose-by, and-left, and-right, and-both}
+use Rattle.kept.proofs.Areas.{clear, clear-with}
+use Rattle.kept.proofs.Parts.{parts, good, Marks, marks-words, rows, rows-well, tables-after}
+
+-- two VCPUs strike where they have one affinity
+abbrev alike : Vcpu → Vcpu → Bool
+alike v w = hasAffinity (v .affinity) w
+
+eqb-sym : (a b : ℕ) → eqb a b ≡ eqb b a
+eqb-sym a b = by (eqb a b) refl
+  where
+    by : (t : Bool) → eqb a b ≡ t → t ≡ eqb b a
+    by true q = sym (eq-eqb b a (sym (eqb-true a b q)))
+    by false q = sym (ne-eqb b a (λ e. eqb-false a b q (sym e)))
+
+distinct-clear : (vs : List Vcpu) → distinct vs ≡ clear alike vs
+unfolding distinct taken clear
+distinct-clear [] = refl
+distinct-clear (v ∷ vs) = ap (λ (b : Bool). not (taken vs (v .affinity)) && b) (distinct-clear vs)
+
+pub distinct-with : (vs : List Vcpu) (v : Vcpu) → distinct vs ≡ true → taken vs (v .affinity) ≡ false → distinct (vs ++ (v ∷ [])) ≡ true
+unfolding taken
+distinct-with vs v d t =
+    distinct-clear (vs ++ (v ∷ []))
+    ∙ clear-with alike v [] (λ x y. eqb-sym (y .affinity) (x .affinity)) vs (rw append-nil (sym (distinct-clear vs) ∙ d)) (rw append-nil t)
+
+-- what a step shows of new marks and new shared banks
+pub record Step (c : Control) (bs : List Bank) (m : Machine) : Type 0 where
+  pub marks : Marks c
+  pub frames : framesOk (withControl c m) ≡ true
+  pub init : initOk (withControl c m) ≡ true
+  pub banks : All BankWords bs
+  pub count : length bs ≡ sharedCount (c .irqs)
+  pub later : m .control .itsinit ≤ c .itsinit
+  pub based : c .itsinit ≤ m .frames .its .set
+
+pub step-good : {c : Control} {bs : List Bank} {m : Machine} → Good m → Step c bs m → Good (withShared bs (withControl c m))
+unfolding framesOk standing initOk tablesOk
+step-good {c} {bs} {m} h s =
+    let p = parts m h in
+    let w = h .words in
+    good
+    (record {
+      memory = w .memory;
+      control = marks-words c (s .marks);
+      frames = w .frames;
+      regions = w .regions;
+      vcpus = w .vcpus;
+      shared = s .banks;
+      tables = w .tables;
+    })
+    (record {
+      memory = p .memory;
+      control = s .marks;
+      frames = s .frames;
+      init = s .init;
+      vcpus = p .vcpus;
+      shared = s .count;
+      its = s .based;
+      tables = tables-after m c (s .later) (p .tables);
+    })
+
+pub setRunning-keeps : (r : ℕ) → r ≤ 1 → Keeps (setRunning r)
+unfolding setRunning framesOk standing initOk
+setRunning-keeps r l m h =
+    choose-by Stays (initialised m)
+    (λ i.
+    let p = parts m h in
+    let k = p .control in
+    let i₁ = eqb-true (m .control .init) 1 i in
+    step-good h (record {
+      marks = record {
+        init = k .init;
+        running = omega arith;
+        itsinit = k .itsinit;
+        irqsset = k .irqsset;
+        irqs = k .irqs;
+        status = k .status;
+      };
+      frames = p .frames;
+      init = p .init;
+      banks = h .words .shared;
+      count = p .shared;
+      later = omega arith;
+      based = p .its;
+    }))
+    (λ i. h)
+
+-- fresh banks
+fresh-banks : (n : ℕ) → All BankWords (replicate n noBank)
+fresh-banks zero = none
+fresh-banks (suc n) = more (record { latch = lit< tt; level = lit< tt; trigger = lit< tt }) (fresh-banks n)
+
+pub setIrqs-keeps : (attribute width value : ℕ) → Keeps (setIrqs attribute width value)
+unfolding setIrqs framesOk standing initOk
+setIrqs-keeps attribute width value m h =
+    let p = parts m h in
+    let k = p .control in
+    choose-by Stays (eqb attribute 0)
+    (λ _. choose-by Stays (eqb width 4)
+    (λ _. choose-by Stays (irqsOk value)
+    (λ n. choose-by Stays (eqb (m .control .irqsset) 1 || initialised m) (λ _. h)
+    (λ _. step-good h (record {
+      marks = record {
+        init = k .init;
+        running = k .running;
+        itsinit = k .itsinit;
+        irqsset = omega arith;
+        irqs = n;
+        status = k .status;
+      };
+      frames = p .frames;
+      init = p .init;
+      banks = fresh-banks (sharedCount value);
+      count = length-replicate (sharedCount value) noBank;
+      later = omega arith;
+      based = p .its;
+    })))
+    (λ _. h))
+    (λ _. h))
+    (λ _. h)
+
+pub itsInit-keeps : Keeps itsInit
+unfolding itsInit framesOk standing initOk
+itsInit-keeps m h =
+    choose-by Stays (initialised m && isSet (m .frames .its))
+    (λ e.
+    let p = parts m h in
+    let k = p .control in
+    let i = eqb-true (m .control .init) 1 (and-left (initialised m) _ e) in
+    let s = eqb-true (m .frames .its .set) 1 (and-right (initialised m) _ e) in
+    step-good h (record {
+      marks = record {
+        init = k .init;
+        running = k .running;
+        itsinit = omega arith;
+        irqsset = k .irqsset;
+        irqs = k .irqs;
+        status = k .status;
+      };
+      frames = p .frames;
+      init = p .init;
+      banks = h .words .shared;
+      count = p .shared;
+      later = omega (arith, k .itsinit);
+      based = omega arith;
+    }))
+    (λ _. h)
+
+no-table : TableWords unplaced
+no-table = record { set = lit< tt; start = lit< tt; pages = lit< tt }
+
+no-tables : (m : Machine) → tablesOk (withTables noTables m) ≡ true
+unfolding tablesOk tableOk overlaps
+no-tables m = and-both (le-leb 0 (m .control .itsinit) (omega arith)) refl
+
+pub itsReset-keeps : Keeps itsReset
+unfolding itsReset framesOk standing initOk
+itsReset-keeps m h =
+    choose-by Stays (eqb (m .control .itsinit) 1)
+    (λ _. choose-by Stays (isRunning m) (λ _. h)
+    (λ _.
+    let p = parts m h in
+    let w = h .words in
+    good
+    (record {
+      memory = w .memory;
+      control = w .control;
+      frames = w .frames;
+      regions = w .regions;
+      vcpus = w .vcpus;
+      shared = w .shared;
+      tables = record { devices = no-table; collections = no-table };
+    })
+    (record {
+      memory = p .memory;
+      control = p .control;
+      frames = p .frames;
+      init = p .init;
+      vcpus = p .vcpus;
+      shared = p .shared;
+      its = p .its;
+      tables = no-tables m;
+    })))
+    (λ _. h)
+
+fresh-vcpu : (a : ℕ) → vcpuOk (noVcpu a) ≡ true
+unfolding vcpuOk getField
+fresh-vcpu a = refl
+
+module _ (a : ℕ) (small : a < 2 ^ 32) (m : Machine) (h : Good m) where
+  abbrev added : Machine
+  added = withVcpus (m .vcpus ++ (noVcpu a ∷ [])) m
+
+  added-rows : taken (m .vcpus) a ≡ false → length (m .vcpus) < 64 → vcpusOk (m .vcpus ++ (noVcpu a ∷ [])) ≡ true
+  added-rows t l =
+      let vs = m .vcpus in
+      let r = rows vs (parts m h .vcpus) in
+      rows-well (record {
+        few = rw length-append (omega arith);
+        each = to-all vcpuOk (vs ++ (noVcpu a ∷ [])) (all-append vs (from-all vcpuOk vs (r .each)) (more (fresh-vcpu a) none));
+        distinct = distinct-with vs (noVcpu a) (r .distinct) t;
+      })
+
+  -- before INIT no frame depends on the number of VCPUs
+  added-frames : initialised m ≡ false → framesOk added ≡ true
+  unfolding framesOk standing
+  added-frames i = rw i (rw i at (parts m h .frames))
+
+  added-good : initialised m ≡ false → taken (m .vcpus) a ≡ false → length (m .vcpus) < 64 → Good added
+  unfolding initOk tablesOk
+  added-good i t l =
+      let p = parts m h in
+      let w = h .words in
+      good
+      (record {
+        memory = w .memory;
+        control = w .control;
+        frames = w .frames;
+        regions = w .regions;
+        vcpus =
+            all-append (m .vcpus) (w .vcpus)
+            (more (record { affinity = small; bank = record { latch = lit< tt; level = lit< tt; trigger = lit< tt }; status = lit< tt }) none);
+        shared = w .shared;
+        tables = w .tables;
+      })
+      (record {
+        memory = p .memory;
+        control = p .control;
+        frames = added-frames i;
+        init = rw i;
+        vcpus = added-rows t l;
+        shared = p .shared;
+        its = p .its;
+        tables = p .tables;
+      })
+
+pub addVcpu-keeps : (affinity : ℕ) → affinity < 2 ^ 32 → Keeps (addVcpu affinity)
+unfolding addVcpu
+addVcpu-keeps a small m h =
+    choose-by Stays (initialised m) (λ _. h) (λ i.
+    choose-by Stays (taken (m .vcpus) a) (λ _. h) (λ t.
+    choose-by Stays (leb 64 (length (m .vcpus))) (λ _. h) (λ l.
+    added-good a small m h i t (leb-false 64 (length (m .vcpus)) l))))
+
+pub fresh-good : (width start len : ℕ) → width < 2 ^ 64 → start < 2 ^ 64 → len < 2 ^ 64 → memoryOk (record { width = width; start = start; length = len }) ≡ true → Good (fresh width start len)
+unfolding framesOk frameOk standing apart all initOk vcpusOk distinct irqsOk
+fresh-good width start len w s l e =
+    good
+    (record {
+      memory = record { width = w; start = s; length = l };
+      control = record { init = lit< tt; running = lit< tt; irqs = lit< tt; irqsset = lit< tt; status = lit< tt; itsinit = lit< tt };
+      frames = record { distributor = no-frame; single = no-frame; its = no-frame };
+      regions = none;
+      vcpus = none;
+      shared = fresh-banks (sharedCount 256);
+      tables = record { devices = no-table; collections = no-table };
+    })
+    (record {
+      memory = e;
+      control = record { init = lit≤ tt; running = lit≤ tt; itsinit = lit≤ tt; irqsset = lit≤ tt; irqs = refl; status = lit< tt };
+      frames = refl;
+      init = refl;
+      vcpus = refl;
+      shared = refl;
+      its = lit≤ tt;
+      tables = no-tables (fresh width start len);
+    })
+  where
+    no-frame : FrameWords unset
+    no-frame = record { set = lit< tt; base = lit< tt }

@@ -1,0 +1,1 @@
+// Every call on VCPUs and frames keeps the rules of a sound guest: laws, no code.

@@ -1,0 +1,123 @@
+-- What is known of a sound guest: of a machine that keeps the rules, and of a struct that passed the test. Assumes nothing.
+use Prim.Native.Nat.{ℕ, _^_, _≤_, _<_}
+use native.Mathlib.Omega.{arith}
+use mathlib.Core.Path.{_≡_, refl, sym, _∙_}
+use mathlib.Core.Bool.{true}
+use mathlib.Core.List.{List, [], _∷_}
+use lib.ListN.{length, getD}
+use lib.Seq.{length-take-le}
+use lib.Pow.{pow-mono}
+use borrow.Author.Tests.{lt-ltb}
+use Rattle.lists.specs.Rows.{all}
+use Rattle.lists.proofs.All.{from-all, all-at}
+use Rattle.areas.specs.Area.{apart}
+use Rattle.guest.specs.declared.Region.{Region}
+use Rattle.guest.specs.declared.Guest.{Guest}
+use Rattle.guest.specs.Machine.{Machine, view, sharedCount}
+use Rattle.rules.specs.Standing.{standing, runSize, smallCount, Small, distributorSize, itsSize}
+use Rattle.rules.specs.Rules.{regionOk, vcpuOk, limitOf, rules, Kept}
+use Rattle.rules.proofs.Rows.{noRegion, blankVcpu, row-passes, all-weaker}
+use Rattle.rules.proofs.Parts.{MemoryParts, IrqsParts, ControlParts, FrameParts, RegionParts, FramesParts, InitParts, VcpuParts, VcpusParts, TableParts, TablesParts, memory-parts, irqs-parts, control-parts, frame-parts, region-parts, frames-parts, init-parts, vcpu-parts, vcpus-parts, table-parts, tables-parts, its-parts, rules-parts}
+
+none-left : {A : Type 0} (l : List A) → length l ≡ 0 → l ≡ []
+none-left [] e = refl
+none-left (x ∷ l) e = absurd (omega arith)
+
+-- regions that are right have counts of 12 bits
+pub regions-small : (limit : ℕ) (l : List Region) → all (regionOk limit) l ≡ true → all smallCount l ≡ true
+regions-small limit l e = all-weaker (regionOk limit) smallCount (λ (r : Region) q. lt-ltb (r .count) 4096 (region-parts limit r q .small)) l e
+
+module _ (m : Machine) (e : rules m ≡ true) where
+  pub sound-memory : MemoryParts (m .memory)
+  sound-memory = memory-parts (m .memory) (rules-parts m e .memory)
+
+  pub sound-limit : limitOf m ≤ 2 ^ 52
+  sound-limit = pow-mono (sound-memory .narrow)
+
+  pub sound-control : ControlParts (m .control)
+  sound-control = control-parts (m .control) (rules-parts m e .control)
+
+  pub sound-running : m .control .running ≤ 1
+  sound-running = omega (arith, sound-control .running, sound-control .init)
+
+  pub sound-itsinit : m .control .itsinit ≤ 1
+  sound-itsinit = omega (arith, sound-control .itsinit, sound-control .init)
+
+  pub sound-irqs : IrqsParts (m .control .irqs)
+  sound-irqs = irqs-parts (m .control .irqs) (sound-control .irqs)
+
+  pub sound-frames : FramesParts m
+  sound-frames = frames-parts m (rules-parts m e .frames)
+
+  -- a base that is set is a multiple of 65,536, and its frame ends by 2^p
+  pub sound-distributor : FrameParts (limitOf m) distributorSize (m .frames .distributor)
+  sound-distributor = frame-parts (limitOf m) distributorSize (m .frames .distributor) (sound-frames .distributor)
+
+  pub sound-single : FrameParts (limitOf m) (runSize m) (m .frames .single)
+  sound-single = frame-parts (limitOf m) (runSize m) (m .frames .single) (sound-frames .single)
+
+  pub sound-its : FrameParts (limitOf m) itsSize (m .frames .its)
+  sound-its = frame-parts (limitOf m) itsSize (m .frames .its) (sound-frames .its)
+
+  pub sound-region : (i : ℕ) → i < length (m .regions) → RegionParts (limitOf m) (getD (m .regions) i noRegion)
+  sound-region i h =
+      region-parts (limitOf m) (getD (m .regions) i noRegion)
+      (all-at (m .regions) i noRegion (from-all (regionOk (limitOf m)) (m .regions) (sound-frames .regions)) h)
+
+  pub sound-small : all smallCount (m .regions) ≡ true
+  sound-small = regions-small (limitOf m) (m .regions) (sound-frames .regions)
+
+  -- single run or regions
+  pub sound-no-regions : m .frames .single .set ≡ 1 → m .regions ≡ []
+  sound-no-regions h = none-left (m .regions) (sound-frames .either h)
+
+  pub sound-apart : apart (standing m) ≡ true
+  sound-apart = sound-frames .apart
+
+  pub sound-init : m .control .init ≡ 1 → InitParts m
+  sound-init h = init-parts m (rules-parts m e .init) h
+
+  pub sound-vcpus : VcpusParts (m .vcpus)
+  sound-vcpus = vcpus-parts (m .vcpus) (rules-parts m e .vcpus)
+
+  pub sound-vcpu : (i : ℕ) → i < length (m .vcpus) → VcpuParts (getD (m .vcpus) i blankVcpu)
+  sound-vcpu i h = vcpu-parts (getD (m .vcpus) i blankVcpu) (all-at (m .vcpus) i blankVcpu (from-all vcpuOk (m .vcpus) (sound-vcpus .each)) h)
+
+  pub sound-shared : length (m .shared) ≡ sharedCount (m .control .irqs)
+  sound-shared = rules-parts m e .shared
+
+  pub sound-its-base : m .control .itsinit ≡ 1 → m .frames .its .set ≡ 1
+  sound-its-base h = omega (arith, its-parts m (rules-parts m e .its), sound-its .mark)
+
+  pub sound-tables : TablesParts m
+  sound-tables = tables-parts m (rules-parts m e .tables)
+
+  pub sound-devices : TableParts (m .memory) (m .tables .devices)
+  sound-devices = table-parts (m .memory) (m .tables .devices) (sound-tables .devices)
+
+  pub sound-collections : TableParts (m .memory) (m .tables .collections)
+  sound-collections = table-parts (m .memory) (m .tables .collections) (sound-tables .collections)
+
+-- of a struct; that a count is within its array is a fact of the array's type
+module _ (g : Guest) (k : Kept g) where
+  pub kept-small : Small g
+  kept-small = record { held = k .held; counts = sound-small (view g) (k .rules) }
+
+  pub kept-row : g .regions .count ≤ length (g .regions .rows) → (i : ℕ) → i < g .regions .count → RegionParts (2 ^ g .memory .width) (getD (g .regions .rows) i noRegion)
+  kept-row f i h =
+      region-parts (limitOf (view g)) (getD (g .regions .rows) i noRegion)
+      (row-passes (regionOk (limitOf (view g))) noRegion (g .regions .count) (g .regions .rows) i f h (sound-frames (view g) (k .rules) .regions))
+
+  pub kept-no-rows : g .regions .count ≤ length (g .regions .rows) → g .frames .single .set ≡ 1 → g .regions .count ≡ 0
+  kept-no-rows f h = sym (length-take-le (g .regions .count) (g .regions .rows) f) ∙ sound-frames (view g) (k .rules) .either h
+
+  pub kept-vcpu : g .vcpus .count ≤ length (g .vcpus .rows) → (i : ℕ) → i < g .vcpus .count → VcpuParts (getD (g .vcpus .rows) i blankVcpu)
+  kept-vcpu f i h =
+      vcpu-parts (getD (g .vcpus .rows) i blankVcpu)
+      (row-passes vcpuOk blankVcpu (g .vcpus .count) (g .vcpus .rows) i f h (sound-vcpus (view g) (k .rules) .each))
+
+  pub kept-some : g .vcpus .count ≤ length (g .vcpus .rows) → g .control .init ≡ 1 → 1 ≤ g .vcpus .count
+  kept-some f h = omega (arith, length-take-le (g .vcpus .count) (g .vcpus .rows) f, sound-init (view g) (k .rules) h .some)
+
+  pub kept-shared : g .shared .count ≤ length (g .shared .rows) → g .shared .count ≡ sharedCount (g .control .irqs)
+  kept-shared f = sym (length-take-le (g .shared .count) (g .shared .rows) f) ∙ sound-shared (view g) (k .rules)

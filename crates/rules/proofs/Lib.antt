@@ -1,0 +1,4 @@
+pub mod Rows
+pub mod Built
+pub mod Parts
+pub mod Facts

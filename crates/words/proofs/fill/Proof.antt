@@ -1,0 +1,52 @@
+use Prim.Native.Nat.{ℕ, _-_, _≤_}
+use native.Mathlib.Omega.{arith}
+use mathlib.Core.Path.{_≡_, refl, ap, _∙_}
+use mathlib.Core.List.{_++_}
+use lib.ListN.{length, take, length-set}
+use borrow.Author.Needs.{needs}
+use Rattle.words.specs.Words.{bytesOf}
+use Rattle.words.proofs.Laws.{fill-turn, fill-end}
+use Rattle.words.proofs.fill.Statement.{statement}
+use Rattle.words.proofs.fill.Tie as tie
+
+abbrev Inv-loop : tie.InvT-loop
+Inv-loop s₀ v rest₀ i₀ s rest i =
+    (i ≤ length s₀) × (length s ≡ length s₀) × (take i s ++ bytesOf (length s₀ - i) rest ≡ bytesOf (length s₀) v)
+
+abbrev μ-loop : tie.MeasureT-loop
+μ-loop s₀ v rest₀ i₀ s rest i = length s₀ - i
+
+loop-holds : tie.Need-loop-holds Inv-loop μ-loop
+loop-holds c = (omega arith, refl, ap (λ (n : ℕ). bytesOf n (c .args .v)) (omega arith))
+
+cast-s : tie.Need-cast-s Inv-loop μ-loop
+cast-s c = search needs
+
+slice-write-s : tie.Need-slice-write-s Inv-loop μ-loop
+slice-write-s c = search needs
+
+add-i : tie.Need-add-i Inv-loop μ-loop
+add-i c = search needs
+
+loop-less : tie.Need-loop-less Inv-loop μ-loop
+loop-less c = search needs
+
+loop-again : tie.Need-loop-again Inv-loop μ-loop
+loop-again c =
+    let l = c .before .loop in
+    let v = l .inv in
+    (omega arith, simp length-set (v .1), fill-turn (l .s) _ (l .i) (l .rest) (omega arith) (v .1) ∙ v .2)
+
+same-length : tie.Need-same-length Inv-loop μ-loop
+same-length c = search needs
+
+returns : tie.Need-returns Inv-loop μ-loop
+returns c =
+    let l = c .before .loop in
+    let v = l .inv in
+    fill-end (l .s) (length (c .before .before .args .s .now)) (l .i) (l .rest) _ (omega arith) (v .1) (v .2)
+
+pub fill-spec : {M : Type 1} → statement M
+fill-spec =
+    tie.close
+    (tie.spec Inv-loop μ-loop loop-holds cast-s slice-write-s add-i loop-less loop-again same-length returns)
