@@ -1,14 +1,13 @@
 -- The faults of an area that is to stand, and of a region, by the tests that the code makes.
-use Prim.Native.Nat.{ℕ, _^_, _≤_, _<_}
+use Prim.Native.Nat.{ℕ, _^_, _<_}
 use native.Mathlib.Omega.{arith}
-use mathlib.Core.Path.{_≡_, refl, sym, _∙_}
+use mathlib.Core.Path.{_≡_, refl}
 use mathlib.Core.Bool.{Bool, true, false, not}
 use mathlib.Core.List.{List}
 use lib.ListN.{length}
 use lib.Dec.{eqb, leb}
 use borrow.Author.Tests.{leb-false}
 use Rattle.lists.specs.Rows.{choose}
-use Rattle.fields.specs.Field.{getField}
 use Rattle.fields.proofs.Laws.{get-lt}
 use Rattle.areas.specs.declared.Area.{Area}
 use Rattle.areas.specs.Area.{endsBy, strikes}
@@ -18,6 +17,10 @@ use Rattle.rules.specs.Rules.{limitOf}
 use Rattle.frames.specs.Bases.{areaFault, regionFault, wordRegion, wordFlags, wordIndex}
 use Rattle.frames.specs.Init.{runFits}
 
+flipped : (s : Bool) → not s ≡ choose s false true
+flipped true = refl
+flipped false = refl
+
 -- the limit that the code computes, the test of the area's end, and the frames that it lists
 module _ (m : Machine) (a : Area) (limit : ℕ) (l : limit ≡ limitOf m) (b : Bool) (e : b ≡ endsBy limit a) where
   pub area-high : b ≡ false → 7 ≡ areaFault a m
@@ -25,7 +28,6 @@ module _ (m : Machine) (a : Area) (limit : ℕ) (l : limit ≡ limitOf m) (b : B
   area-high h = rw (← l, ← e, h)
 
   pub run-high : b ≡ false → false ≡ runFits a m
-  unfolding runFits
   run-high h = rw (← l, ← e, h)
 
   module _ (h : b ≡ true) (t : List Area) (s : Bool) (k : s ≡ strikes t a) where
@@ -38,14 +40,14 @@ module _ (m : Machine) (a : Area) (limit : ℕ) (l : limit ≡ limitOf m) (b : B
     area-free f r = rw (← l, ← e, h, ← f, ← k, r)
 
     pub run-low : t ≡ others m → not s ≡ runFits a m
-    unfolding runFits
-    run-low f = rw (← l, ← e, h, ← f, ← k)
+    run-low f = rw (← l, ← e, h, ← f, ← k) (flipped s)
 
 -- with no fault, there is room for one more region
 pub region-free : (w : ℕ) (m : Machine) → 0 ≡ regionFault w m → length (m .regions) < 32
 unfolding regionFault
 region-free w m e =
-    leb-false _ _ (room (eqb (m .frames .single .set) 1) (eqb (wordFlags w) 0) (eqb (wordRegion w .count) 0) (eqb (wordIndex w) (length (m .regions))) (leb 32 (length (m .regions))) _ e)
+    leb-false _ _
+    (room (eqb (m .frames .single .set) 1) (eqb (wordFlags w) 0) (eqb (wordRegion w .count) 0) (eqb (wordIndex w) (length (m .regions))) (leb 32 (length (m .regions))) _ e)
   where
     room : (single flags count index full : Bool) (x : ℕ)
         → 0 ≡ choose single 22 (choose flags (choose count 22 (choose index (choose full 12 x) 22)) 22) → full ≡ false

@@ -1,5 +1,5 @@
 -- The rows that a guest's tables have in use: how many there are, and one more.
-use Prim.Native.Nat.{ℕ, zero, suc, _+_, _-_, _/_, _≤_, _<_}
+use Prim.Native.Nat.{ℕ, zero, suc, _+_, _/_, _≤_, _<_}
 use native.Mathlib.Nat.{le-of-suc-le-suc, not-suc-le-zero}
 use native.Mathlib.Numerals.{add-one}
 use native.Mathlib.Omega.{arith}
@@ -9,7 +9,7 @@ use mathlib.Core.List.{List, [], _∷_, _++_}
 use lib.ListN.{length, take, set, replicate}
 use lib.Seq.{length-take-le, take-suc-set}
 use Rattle.guest.specs.declared.Guest.{Guest}
-use Rattle.guest.specs.Machine.{Held, view, sharedCount}
+use Rattle.guest.specs.Machine.{Held, sharedCount}
 use Rattle.rules.specs.Rules.{irqsOk}
 use Rattle.rules.proofs.Parts.{irqs-parts}
 

@@ -1,7 +1,7 @@
 -- Group 0: frames' bases and redistributor regions. Values are 8 bytes.
-use Prim.Native.Nat.{ℕ, _+_, _*_, _/_, _%_, _^_}
+use Prim.Native.Nat.{ℕ, _*_, _/_, _%_}
 use mathlib.Core.Bool.{Bool, _||_}
-use mathlib.Core.List.{List, [], _∷_, _++_}
+use mathlib.Core.List.{[], _∷_, _++_}
 use lib.ListN.{length, getD}
 use lib.Dec.{ltb, leb, eqb}
 use Rattle.lists.specs.Rows.{choose}
@@ -9,11 +9,10 @@ use Rattle.fields.specs.Field.{getField, putField}
 use Rattle.areas.specs.declared.Area.{Area}
 use Rattle.areas.specs.Area.{endsBy, strikes}
 use Rattle.guest.specs.declared.Frame.{Frame}
-use Rattle.guest.specs.declared.Frames.{Frames}
 use Rattle.guest.specs.declared.Region.{Region}
 use Rattle.guest.specs.declared.Reading.{Reading}
 use Rattle.guest.specs.Machine.{Machine, Result, refuse, accept, isSet, withFrames, withRegions}
-use Rattle.rules.specs.Standing.{standing, distributorSize, itsSize, redistributorSize, runSize, regionArea}
+use Rattle.rules.specs.Standing.{standing, distributorSize, itsSize, runSize, regionArea}
 use Rattle.rules.specs.Rules.{limitOf}
 
 abbrev pub setTo : ℕ → Frame

@@ -1,6 +1,6 @@
 -- VGIC INIT and where each VCPU's redistributor frame lies.
 use Prim.Native.Nat.{ℕ, _+_, _-_, _*_}
-use mathlib.Core.Bool.{Bool, false, not}
+use mathlib.Core.Bool.{Bool, true, false}
 use mathlib.Core.List.{List, [], _∷_}
 use lib.ListN.{length}
 use lib.Dec.{ltb, leb, eqb}
@@ -17,11 +17,12 @@ use Rattle.frames.specs.Vcpus.{withInit}
 abbrev pub runArea : Machine → Area
 runArea m = record { start = m .frames .single .base; size = wholeRun m }
 
--- the whole single run ends by 2^p and overlaps no other frame
-unfoldable pub runFits : Area → Machine → Bool
-runFits a m = choose (endsBy (limitOf m) a) (not (strikes (others m) a)) false
+-- a run ends by 2^p and overlaps no other frame
+abbrev pub runFits : Area → Machine → Bool
+runFits a m = choose (endsBy (limitOf m) a) (choose (strikes (others m) a) false true) false
 
--- every VCPU has a redistributor place: in the single run, or in the regions, whose counts sum to the VCPUs or more
+-- every VCPU has a redistributor place: the whole single run ends by 2^p and overlaps no other frame, or the regions' counts sum to
+-- the VCPUs or more
 unfoldable pub hasPlaces : Machine → Bool
 hasPlaces m =
     choose (isSet (m .frames .single)) (runFits (runArea m) m) (leb (length (m .vcpus)) (total (m .regions)))

@@ -36,9 +36,26 @@ const UNIT: u64 = 65536;
 // The bytes of each frame.
 const DISTRIBUTOR_BYTES: u64 = 65536;
 
-const REDISTRIBUTOR_BYTES: u64 = 131072;
+pub const REDISTRIBUTOR_BYTES: u64 = 131072;
 
 const ITS_BYTES: u64 = 131072;
+
+// The fields of a region word: the lowest bit and the number of bits of each.
+const INDEX_AT: u32 = 0;
+
+const INDEX_BITS: u32 = 12;
+
+const FLAGS_AT: u32 = 12;
+
+const FLAGS_BITS: u32 = 4;
+
+const BASE_AT: u32 = 16;
+
+const BASE_BITS: u32 = 36;
+
+const COUNT_AT: u32 = 52;
+
+const COUNT_BITS: u32 = 12;
 
 // Whether the VGIC's group 0 has an attribute.
 fn is_base(attribute: u64) -> bool
@@ -66,6 +83,7 @@ fn name_fault(attribute: u64, width: u64) -> u64
     Errno::ENXIO
 }
 
+// The base of a frame, if it is set.
 fn base_of(f: Frame) -> Reading
     ensures { λ r. ⌜ r ≡ baseOf f ⌝ }
 {
@@ -75,6 +93,7 @@ fn base_of(f: Frame) -> Reading
     guest::told(0, f.base)
 }
 
+// The base of the single run. With regions standing there can be none.
 fn get_single(g: Guest) -> Reading
     requires { ⌜ Kept g ⌝ }
     ensures { λ r. ⌜ r ≡ getSingle (view g) ⌝ }
@@ -86,22 +105,23 @@ fn get_single(g: Guest) -> Reading
     base_of(f)
 }
 
-// Count [63:52], base [51:16], index [11:0]; flags [15:12] are 0.
+// The word of a region, with flags 0. A base is a multiple of 65,536, so that its bits 51:16 are all of it.
 fn region_word(index: u64, r: Region) -> u64
     requires { ⌜ (index < 2 ^ 12) × (r .base < 2 ^ 52) × (r .count < 2 ^ 12) ⌝ }
     ensures { λ w. ⌜ w ≡ regionWord index r ⌝ }
 {
-    let low = fields::field_put(0, 0, 12, index);
-    let mid = fields::field_put(low, 16, 36, r.base / UNIT);
-    fields::field_put(mid, 52, 12, r.count)
+    let low = fields::field_put(0, INDEX_AT, INDEX_BITS, index);
+    let mid = fields::field_put(low, BASE_AT, BASE_BITS, r.base / UNIT);
+    fields::field_put(mid, COUNT_AT, COUNT_BITS, r.count)
 }
 
+// The region of a word.
 fn word_region(w: u64) -> Region
     ensures { λ r. ⌜ r ≡ wordRegion w ⌝ }
 {
     Region {
-        base: fields::field_get(w, 16, 36) * UNIT,
-        count: fields::field_get(w, 52, 12),
+        base: fields::field_get(w, BASE_AT, BASE_BITS) * UNIT,
+        count: fields::field_get(w, COUNT_AT, COUNT_BITS),
     }
 }
 
@@ -113,7 +133,7 @@ fn get_region(g: Guest, w: u64) -> Reading
     if g.frames.single.set == 1 {
         return guest::told(Errno::EINVAL, 0);
     }
-    let index = fields::field_get(w, 0, 12);
+    let index = fields::field_get(w, INDEX_AT, INDEX_BITS);
     let at = index as usize;
     let t = g.regions;
     if at < t.count {
@@ -123,6 +143,7 @@ fn get_region(g: Guest, w: u64) -> Reading
     guest::told(Errno::ENOENT, 0)
 }
 
+// Group 0 of the VGIC.
 pub fn get_group0(g: Guest, attribute: u64, width: u64, value: u64) -> Reading
     requires { ⌜ Kept g ⌝ }
     ensures { λ r. ⌜ r ≡ getGroup0 attribute width value (view g) ⌝ }
@@ -141,6 +162,7 @@ pub fn get_group0(g: Guest, attribute: u64, width: u64, value: u64) -> Reading
     get_region(g, value)
 }
 
+// Group 0 of the ITS, where an unknown attribute is -19.
 pub fn get_its_group0(g: Guest, attribute: u64, width: u64) -> Reading
     requires { ⌜ Kept g ⌝ }
     ensures { λ r. ⌜ r ≡ getItsGroup0 attribute width (view g) ⌝ }
@@ -212,14 +234,12 @@ fn set_distributor(g: Guest, base: u64) -> Outcome
     let mut frames = g.frames;
     let old = frames.distributor;
     let fault = frame_fault(g, old, DISTRIBUTOR_BYTES, base);
-    let f = Frame {
-        set: 1,
-        base: base,
-    };
+    let f = Frame { set: 1, base: base };
     frames.distributor = f;
     with_frames(g, fault, frames)
 }
 
+// The fault of setting the single run's base; 0 for none. Regions and the single run never stand together.
 fn single_fault(g: Guest, base: u64) -> u64
     requires { ⌜ Kept g ⌝ }
     ensures { λ r. ⌜ r ≡ singleFault base (view g) ⌝ }
@@ -236,10 +256,7 @@ fn set_single(g: Guest, base: u64) -> Outcome
     ensures { λ r. ⌜ Does r (setSingle base (view g)) ⌝ }
 {
     let fault = single_fault(g, base);
-    let f = Frame {
-        set: 1,
-        base: base,
-    };
+    let f = Frame { set: 1, base: base };
     let mut frames = g.frames;
     frames.single = f;
     with_frames(g, fault, frames)
@@ -252,14 +269,12 @@ fn set_its_base(g: Guest, base: u64) -> Outcome
     let mut frames = g.frames;
     let old = frames.its;
     let fault = frame_fault(g, old, ITS_BYTES, base);
-    let f = Frame {
-        set: 1,
-        base: base,
-    };
+    let f = Frame { set: 1, base: base };
     frames.its = f;
     with_frames(g, fault, frames)
 }
 
+// A count below 4,096 keeps the size a number of 64 bits.
 fn region_area(r: Region) -> Area
     requires { ⌜ r .count < 2 ^ 12 ⌝ }
     ensures { λ a. ⌜ a ≡ regionArea r ⌝ }
@@ -278,7 +293,7 @@ fn region_fault(g: Guest, w: u64) -> u64
     if g.frames.single.set == 1 {
         return Errno::EINVAL;
     }
-    if fields::field_get(w, 12, 4) != 0 {
+    if fields::field_get(w, FLAGS_AT, FLAGS_BITS) != 0 {
         return Errno::EINVAL;
     }
     let r = word_region(w);
@@ -286,7 +301,7 @@ fn region_fault(g: Guest, w: u64) -> u64
         return Errno::EINVAL;
     }
     let n = g.regions.count;
-    if fields::field_get(w, 0, 12) != n as u64 {
+    if fields::field_get(w, INDEX_AT, INDEX_BITS) != n as u64 {
         return Errno::EINVAL;
     }
     if Guest::MAX_REGIONS <= n {
@@ -295,6 +310,7 @@ fn region_fault(g: Guest, w: u64) -> u64
     area_fault(g, region_area(r))
 }
 
+// One more region, at the end.
 fn with_region(t: Regions, r: Region) -> Regions
     requires { ⌜ t .count < 32 ⌝ }
     ensures { λ n. ⌜ (take (n .count) (n .rows) ≡ take (t .count) (t .rows) ++ (r ∷ [])) × (n .count ≤ 32) ⌝ }
@@ -324,6 +340,7 @@ fn add_region(g: Guest, w: u64) -> Outcome
     }
 }
 
+// Group 0 of the VGIC.
 pub fn set_group0(g: Guest, attribute: u64, width: u64, value: u64) -> Outcome
     requires { ⌜ Kept g ⌝ }
     ensures { λ r. ⌜ Does r (setGroup0 attribute width value (view g)) ⌝ }
@@ -341,6 +358,7 @@ pub fn set_group0(g: Guest, attribute: u64, width: u64, value: u64) -> Outcome
     add_region(g, value)
 }
 
+// Group 0 of the ITS.
 pub fn set_its_group0(g: Guest, attribute: u64, width: u64, value: u64) -> Outcome
     requires { ⌜ Kept g ⌝ }
     ensures { λ r. ⌜ Does r (setItsGroup0 attribute width value (view g)) ⌝ }

@@ -1,4 +1,5 @@
 // INIT, and where each VCPU's redistributor frame lies.
+use crate::bases::REDISTRIBUTOR_BYTES;
 use answers::Errno;
 use areas::Area;
 use guest::Guest;
@@ -8,26 +9,6 @@ ghost use mathlib.Core.Path.{_≡_};
 ghost use Rattle.guest.specs.Machine.{Does, view};
 ghost use Rattle.rules.specs.Rules.{Kept};
 ghost use Rattle.frames.specs.Init.{runFits, hasPlaces, vgicInit, locate, redistBase};
-
-// The bytes of a redistributor's frame.
-const REDISTRIBUTOR: u64 = 131072;
-
-// Whether every VCPU has a redistributor place: in the whole single run, or in the regions.
-fn has_places(g: Guest) -> bool
-    requires { ⌜ Kept g ⌝ }
-    ensures { λ r. ⌜ r ≡ hasPlaces (view g) ⌝ }
-{
-    let n = g.vcpus.count as u64;
-    if g.frames.single.set == 1 {
-        let run = Area {
-            start: g.frames.single.base,
-            size: REDISTRIBUTOR * n,
-        };
-        return run_fits(g, run);
-    }
-    let t = g.regions;
-    rules::covers(t, n)
-}
 
 // Whether the single run ends in the address space and overlaps no other frame.
 fn run_fits(g: Guest, run: Area) -> bool
@@ -42,12 +23,30 @@ fn run_fits(g: Guest, run: Area) -> bool
     false
 }
 
+// Whether every VCPU has a redistributor place: in the whole single run, or in the regions.
+fn has_places(g: Guest) -> bool
+    requires { ⌜ Kept g ⌝ }
+    ensures { λ r. ⌜ r ≡ hasPlaces (view g) ⌝ }
+{
+    let n = g.vcpus.count as u64;
+    if g.frames.single.set == 1 {
+        let run = Area {
+            start: g.frames.single.base,
+            size: REDISTRIBUTOR_BYTES * n,
+        };
+        return run_fits(g, run);
+    }
+    let t = g.regions;
+    rules::covers(t, n)
+}
+
+// Done before is a success. After it every VCPU has its redistributor's frame.
 pub fn vgic_init(g: Guest) -> Outcome
     requires { ⌜ Kept g ⌝ }
     ensures { λ r. ⌜ Does r (vgicInit (view g)) ⌝ }
 {
     if g.control.init == 1 {
-        return guest::refused(g, 0);
+        return Outcome { errno: 0, guest: g };
     }
     if g.vcpus.count == 0 {
         return guest::refused(g, Errno::ENODEV);
@@ -78,7 +77,7 @@ fn locate(g: Guest, k: u64) -> u64
     while i < n {
         let r = t.rows[i];
         if left < r.count {
-            return r.base + REDISTRIBUTOR * left;
+            return r.base + REDISTRIBUTOR_BYTES * left;
         }
         left -= r.count;
         i += 1;
@@ -86,7 +85,7 @@ fn locate(g: Guest, k: u64) -> u64
     0
 }
 
-// Where the redistributor of VCPU k lies.
+// Where the redistributor of VCPU k lies: the single run is one region.
 pub fn redist_base(g: Guest, k: u64) -> Reading
     requires { ⌜ Kept g ⌝ }
     ensures { λ r. ⌜ r ≡ redistBase k (view g) ⌝ }
@@ -99,7 +98,7 @@ pub fn redist_base(g: Guest, k: u64) -> Reading
         return guest::told(Errno::EINVAL, 0);
     }
     if g.frames.single.set == 1 {
-        return guest::told(0, g.frames.single.base + REDISTRIBUTOR * k);
+        return guest::told(0, g.frames.single.base + REDISTRIBUTOR_BYTES * k);
     }
     guest::told(0, locate(g, k))
 }

@@ -1,6 +1,5 @@
 // Adding VCPUs, the running mark, the interrupt count and ITS INIT.
 use answers::Errno;
-use guest::Bank;
 use guest::Banks;
 use guest::Guest;
 use guest::Outcome;
@@ -23,6 +22,10 @@ const COUNT: u64 = 0;
 
 const COUNT_BYTES: u64 = 4;
 
+// The interrupts of a bank.
+const BANK: u64 = 32;
+
+// One more VCPU, at the end.
 fn with_vcpu(t: Vcpus, v: Vcpu) -> Vcpus
     requires { ⌜ t .count < 64 ⌝ }
     ensures { λ r. ⌜ (take (r .count) (r .rows) ≡ take (t .count) (t .rows) ++ (v ∷ [])) × (r .count ≤ 64) ⌝ }
@@ -80,10 +83,11 @@ fn fresh_banks(irqs: u64) -> Banks
 {
     Banks {
         rows: [guest::fresh_bank(); 31],
-        count: (irqs / 32 - 1) as usize,
+        count: (irqs / BANK - 1) as usize,
     }
 }
 
+// The count is fixed once it was set by hand, and by INIT.
 pub fn set_irqs(g: Guest, attribute: u64, width: u64, value: u64) -> Outcome
     requires { ⌜ Kept g ⌝ }
     ensures { λ r. ⌜ Does r (setIrqs attribute width value (view g)) ⌝ }

@@ -1,7 +1,6 @@
 // The guest as the code holds it: plain structs by value, tables as arrays with the number of rows in use.
 // What lies past a count is never read.
 ghost use mathlib.Core.Path.{_≡_};
-ghost use Prim.Native.Nat.{_≤_};
 ghost use Rattle.guest.specs.Machine.{view, fresh, noBank, noVcpu, Held};
 
 // The address width p in bits, and the run of guest memory.
@@ -123,7 +122,7 @@ impl Guest {
 
     // A fresh guest: no VCPU, no frame, no table placed, 256 interrupts.
     pub fn new(width: u64, start: u64, length: u64) -> Guest
-        ensures { λ r. ⌜ view r ≡ fresh width start length ⌝ }
+        ensures { λ r. ⌜ (view r ≡ fresh width start length) × Held r ⌝ }
     {
         let none = Frame { set: 0, base: 0 };
         let frames = Frames {

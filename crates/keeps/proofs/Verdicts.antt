@@ -3,7 +3,7 @@ use Prim.Native.Nat.{ℕ, _%_, _^_, _≤_, _<_}
 use native.Mathlib.Omega.{arith}
 use mathlib.Core.Path.{_≡_, refl, sym, ap, _∙_}
 use mathlib.Core.Logic.{inl}
-use mathlib.Core.Bool.{Bool, true, false, _&&_, not}
+use mathlib.Core.Bool.{Bool, true, false, _&&_, _||_, not}
 use mathlib.Core.List.{List, [], _∷_}
 use lib.ListN.{length}
 use lib.Dec.{ltb, leb, eqb}
@@ -44,11 +44,25 @@ memory-last m end w n s l a z e q =
       ← e,
     ) q
 
-pub control-last : (c : Control) → c .init ≤ 1 → c .running ≤ c .init → c .itsinit ≤ c .init → c .irqsset ≤ 1 → irqsOk (c .irqs) ≡ true
-    → ltb (c .status) 16 ≡ controlOk c
-unfolding controlOk
-control-last c i r t s n =
-    rw (le-leb (c .init) 1 i, le-leb (c .running) (c .init) r, le-leb (c .itsinit) (c .init) t, le-leb (c .irqsset) 1 s, n)
+-- a count that was set is free, and one that was not is 256
+module _ (c : Control) (i : c .init ≤ 1) (r : c .running ≤ c .init) (t : c .itsinit ≤ c .init) (s : c .irqsset ≤ 1) (n : irqsOk (c .irqs) ≡ true) (l : c .status < 16) where
+  counted : controlOk c ≡ (eqb (c .irqsset) 1 || eqb (c .irqs) 256)
+  unfolding controlOk
+  counted =
+      rw (
+        le-leb (c .init) 1 i,
+        le-leb (c .running) (c .init) r,
+        le-leb (c .itsinit) (c .init) t,
+        le-leb (c .irqsset) 1 s,
+        n,
+        lt-ltb (c .status) 16 l,
+      )
+
+  pub control-set : c .irqsset ≡ 1 → true ≡ controlOk c
+  control-set h = rw (counted, eq-eqb (c .irqsset) 1 h)
+
+  pub control-last : (c .irqsset ≡ 1 → ⊥) → eqb (c .irqs) 256 ≡ controlOk c
+  control-last h = rw (counted, ne-eqb (c .irqsset) 1 h)
 
 module _ (end size : ℕ) (f : Frame) where
   pub frame-set : {b : Bool} → f .set ≡ 1 → f .base % 65536 ≡ 0 → b ≡ endsBy end (record { start = f .base; size = size }) → b ≡ frameOk end size f

@@ -33,7 +33,7 @@ ghost use Rattle.rules.specs.Rules.{
 };
 
 // The address width and the run of guest memory.
-fn memory_ok(m: Memory) -> bool
+pub fn memory_ok(m: Memory) -> bool
     ensures { λ r. ⌜ r ≡ memoryOk m ⌝ }
 {
     if m.width < 36 {
@@ -62,7 +62,7 @@ fn memory_ok(m: Memory) -> bool
     areas::ends_by(end, run)
 }
 
-// The marks, the interrupt count and the distributor's STATUSR.
+// The marks, the interrupt count, which is 256 unless it was set, and the distributor's STATUSR.
 fn control_ok(m: Control) -> bool
     ensures { λ r. ⌜ r ≡ controlOk m ⌝ }
 {
@@ -81,7 +81,13 @@ fn control_ok(m: Control) -> bool
     if !rules::irqs_ok(m.irqs) {
         return false;
     }
-    m.status < 16
+    if 16 <= m.status {
+        return false;
+    }
+    if m.irqsset == 1 {
+        return true;
+    }
+    m.irqs == 256
 }
 
 // A base that is set is a multiple of 64 KiB and its frame ends by the limit; one that is not is 0.

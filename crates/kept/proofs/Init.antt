@@ -15,8 +15,7 @@ use Rattle.guest.specs.Machine.{Machine, initialised, isSet, withControl}
 use Rattle.rules.specs.Standing.{standing, others, placed, runSize, wholeRun, regionArea, total, distributorSize, itsSize}
 use Rattle.rules.specs.Rules.{limitOf, frameOk}
 use Rattle.frames.specs.Vcpus.{withInit}
-use borrow.Author.Tests.{not-true}
-use Rattle.frames.specs.Init.{runArea, runFits, hasPlaces, vgicInit}
+use Rattle.frames.specs.Init.{runArea, hasPlaces, vgicInit}
 use Rattle.kept.specs.Good.{Good, Stays, Keeps}
 use Rattle.kept.proofs.Choice.{choose-by, never, and-left, and-both}
 use Rattle.kept.proofs.Areas.{apart-with, apart-without}
@@ -43,11 +42,11 @@ record Room (m : Machine) : Type 0 where
   room : (isSet (m .frames .single) || leb (length (m .vcpus)) (total (m .regions))) ≡ true
 
 has-room : (m : Machine) → hasPlaces m ≡ true → Room m
-unfolding hasPlaces runFits
+unfolding hasPlaces
 has-room m =
     choose-by P (isSet (m .frames .single))
     (λ s. choose-by P (endsBy (limitOf m) (runArea m))
-    (λ e n. record { run-ends = λ _. e; run-clear = λ _. not-true _ n; room = rw s })
+    (λ e. choose-by P (strikes (others m) (runArea m)) (λ _ z. never z) (λ n _. record { run-ends = λ _. e; run-clear = λ _. n; room = rw s }))
     (λ _ z. never z))
     (λ s l. record { run-ends = λ t. never (sym s ∙ t); run-clear = λ t. never (sym s ∙ t); room = rw s l })
   where
@@ -80,6 +79,7 @@ module _ (m : Machine) where
           irqsset = k .irqsset;
           irqs = k .irqs;
           status = k .status;
+          unset = k .unset;
         };
         frames =
             placed-well (record {

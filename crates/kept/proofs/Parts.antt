@@ -5,7 +5,7 @@ use mathlib.Core.Path.{_≡_, refl}
 use mathlib.Core.Bool.{Bool, true, _||_}
 use mathlib.Core.List.{List}
 use lib.ListN.{length}
-use lib.Dec.{leb, eqb, lit<}
+use lib.Dec.{ltb, leb, eqb, lit<}
 use lib.Pow.{pow-mono}
 use borrow.Author.Tests.{leb-true, le-leb, ltb-true, lt-ltb, eqb-true, eq-eqb}
 use Rattle.lists.specs.Rows.{choose, all}
@@ -16,6 +16,7 @@ use Rattle.guest.specs.declared.Vcpu.{Vcpu}
 use Rattle.guest.specs.Machine.{Machine, initialised, isSet, sharedCount, withControl}
 use Rattle.rules.specs.Standing.{standing, runSize, total, distributorSize, itsSize}
 use Rattle.rules.specs.Rules.{memoryOk, irqsOk, controlOk, frameOk, regionOk, limitOf, framesOk, initOk, distinct, vcpuOk, vcpusOk, tableOk, tablesOk, itsOk, rules}
+use Rattle.rules.proofs.Parts.{count-parts, count-whole}
 use Rattle.guest.specs.Words.{Words, ControlWords}
 use Rattle.kept.specs.Good.{Good}
 use Rattle.kept.proofs.Choice.{choose-by, and-left, and-right, and-both}
@@ -28,6 +29,7 @@ pub record Marks (c : Control) : Type 0 where
   pub irqsset : c .irqsset ≤ 1
   pub irqs : irqsOk (c .irqs) ≡ true
   pub status : c .status < 16
+  pub unset : c .irqsset ≡ 0 → c .irqs ≡ 256
 
 marks : (c : Control) → controlOk c ≡ true → Marks c
 unfolding controlOk
@@ -36,20 +38,22 @@ marks c e =
     let e₃ = and-right (leb (c .running) (c .init)) _ e₂ in
     let e₄ = and-right (leb (c .itsinit) (c .init)) _ e₃ in
     let e₅ = and-right (leb (c .irqsset) 1) _ e₄ in
+    let e₆ = and-right (irqsOk (c .irqs)) _ e₅ in
     record {
       init = leb-true _ _ (and-left _ _ e);
       running = leb-true _ _ (and-left _ _ e₂);
       itsinit = leb-true _ _ (and-left _ _ e₃);
       irqsset = leb-true _ _ (and-left _ _ e₄);
       irqs = and-left _ _ e₅;
-      status = ltb-true _ _ (and-right (irqsOk (c .irqs)) _ e₅);
+      status = ltb-true _ _ (and-left _ _ e₆);
+      unset = count-parts c (and-right (ltb (c .status) 16) _ e₆);
     }
 
 marked : {c : Control} → Marks c → controlOk c ≡ true
 unfolding controlOk
-marked k =
+marked {c} k =
     and-both (le-leb _ _ (k .init)) (and-both (le-leb _ _ (k .running)) (and-both (le-leb _ _ (k .itsinit))
-    (and-both (le-leb _ _ (k .irqsset)) (and-both (k .irqs) (lt-ltb _ _ (k .status))))))
+    (and-both (le-leb _ _ (k .irqsset)) (and-both (k .irqs) (and-both (lt-ltb _ _ (k .status)) (count-whole c (k .irqsset) (k .unset)))))))
 
 -- marks fit their places
 pub marks-words : (c : Control) → Marks c → ControlWords c

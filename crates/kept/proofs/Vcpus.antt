@@ -98,6 +98,7 @@ setRunning-keeps r l m h =
         irqsset = k .irqsset;
         irqs = k .irqs;
         status = k .status;
+        unset = k .unset;
       };
       frames = p .frames;
       init = p .init;
@@ -130,6 +131,7 @@ setIrqs-keeps attribute width value m h =
         irqsset = omega arith;
         irqs = n;
         status = k .status;
+        unset = λ z. absurd (omega arith);
       };
       frames = p .frames;
       init = p .init;
@@ -159,6 +161,7 @@ itsInit-keeps m h =
         irqsset = k .irqsset;
         irqs = k .irqs;
         status = k .status;
+        unset = k .unset;
       };
       frames = p .frames;
       init = p .init;
@@ -280,7 +283,7 @@ fresh-good width start len w s l e =
     })
     (record {
       memory = e;
-      control = record { init = lit≤ tt; running = lit≤ tt; itsinit = lit≤ tt; irqsset = lit≤ tt; irqs = refl; status = lit< tt };
+      control = record { init = lit≤ tt; running = lit≤ tt; itsinit = lit≤ tt; irqsset = lit≤ tt; irqs = refl; status = lit< tt; unset = λ _. refl };
       frames = refl;
       init = refl;
       vcpus = refl;

@@ -46,6 +46,9 @@ module _ (m : Machine) (e : rules m ≡ true) where
   pub sound-irqs : IrqsParts (m .control .irqs)
   sound-irqs = irqs-parts (m .control .irqs) (sound-control .irqs)
 
+  pub sound-unset : m .control .irqsset ≡ 0 → m .control .irqs ≡ 256
+  sound-unset = sound-control .unset
+
   pub sound-frames : FramesParts m
   sound-frames = frames-parts m (rules-parts m e .frames)
 

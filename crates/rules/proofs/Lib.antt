@@ -2,3 +2,4 @@ pub mod Rows
 pub mod Built
 pub mod Parts
 pub mod Facts
+pub mod Samples

@@ -7,7 +7,7 @@ use mathlib.Core.Bool.{Bool, true, false, _&&_, _||_, not}
 use mathlib.Core.List.{List, [], _∷_}
 use lib.ListN.{length}
 use lib.Dec.{ltb, leb, eqb}
-use borrow.Author.Tests.{lt-ltb, le-leb, eq-eqb, ltb-true, leb-true, eqb-true, eqb-false, not-true}
+use borrow.Author.Tests.{lt-ltb, le-leb, eq-eqb, ne-eqb, ltb-true, leb-true, eqb-true, eqb-false, not-true}
 use Rattle.lists.specs.Rows.{choose, all}
 use Rattle.fields.specs.Field.{getField}
 use Rattle.areas.specs.Area.{apart, endsBy, inside, overlaps}
@@ -104,6 +104,21 @@ module _ (n : ℕ) where
   unfolding irqsOk
   irqs-whole p = join (leb 64 n) irqsTests (le-leb 64 n (p .least), (le-leb n 1024 (p .most), eq-eqb (n % 32) 0 (p .step)))
 
+-- the count of a guest that set none
+module _ (c : Control) where
+  abbrev counted : Bool
+  counted = eqb (c .irqsset) 1 || eqb (c .irqs) 256
+
+  pub count-parts : counted ≡ true → c .irqsset ≡ 0 → c .irqs ≡ 256
+  count-parts e h = eqb-true (c .irqs) 256 (rw (ne-eqb (c .irqsset) 1 (λ q. omega arith)) at e)
+
+  pub count-whole : c .irqsset ≤ 1 → (c .irqsset ≡ 0 → c .irqs ≡ 256) → counted ≡ true
+  count-whole l f = go (eqb (c .irqsset) 1) refl
+    where
+      go : (b : Bool) → eqb (c .irqsset) 1 ≡ b → (b || eqb (c .irqs) 256) ≡ true
+      go true q = refl
+      go false q = let n = eqb-false (c .irqsset) 1 q in eq-eqb (c .irqs) 256 (f (omega (arith, l)))
+
 -- the marks
 pub record ControlParts (c : Control) : Type 0 where
   pub init : c .init ≤ 1
@@ -112,11 +127,13 @@ pub record ControlParts (c : Control) : Type 0 where
   pub irqsset : c .irqsset ≤ 1
   pub irqs : irqsOk (c .irqs) ≡ true
   pub status : c .status < 16
+  pub unset : c .irqsset ≡ 0 → c .irqs ≡ 256
 
 module _ (c : Control) where
   abbrev controlTests : List Bool
   controlTests =
-      leb (c .running) (c .init) ∷ leb (c .itsinit) (c .init) ∷ leb (c .irqsset) 1 ∷ irqsOk (c .irqs) ∷ ltb (c .status) 16 ∷ []
+      leb (c .running) (c .init) ∷ leb (c .itsinit) (c .init) ∷ leb (c .irqsset) 1 ∷ irqsOk (c .irqs) ∷ ltb (c .status) 16
+      ∷ counted c ∷ []
 
   pub control-parts : controlOk c ≡ true → ControlParts c
   unfolding controlOk
@@ -128,7 +145,8 @@ module _ (c : Control) where
         itsinit = leb-true (c .itsinit) (c .init) (p .1 .1 .0);
         irqsset = leb-true (c .irqsset) 1 (p .1 .1 .1 .0);
         irqs = p .1 .1 .1 .1 .0;
-        status = ltb-true (c .status) 16 (p .1 .1 .1 .1 .1);
+        status = ltb-true (c .status) 16 (p .1 .1 .1 .1 .1 .0);
+        unset = count-parts c (p .1 .1 .1 .1 .1 .1);
       }
 
   pub control-whole : ControlParts c → controlOk c ≡ true
@@ -140,7 +158,10 @@ module _ (c : Control) where
           le-leb (c .running) (c .init) (p .running),
           (
             le-leb (c .itsinit) (c .init) (p .itsinit),
-            (le-leb (c .irqsset) 1 (p .irqsset), (p .irqs, lt-ltb (c .status) 16 (p .status))),
+            (
+              le-leb (c .irqsset) 1 (p .irqsset),
+              (p .irqs, (lt-ltb (c .status) 16 (p .status), count-whole c (p .irqsset) (p .unset))),
+            ),
           ),
         ),
       )

@@ -33,11 +33,13 @@ memoryOk r =
 unfoldable pub irqsOk : ℕ → Bool
 irqsOk n = leb 64 n && (leb n 1024 && eqb (n % 32) 0)
 
--- marks are 0 or 1; running only after INIT; ITS INIT only after the VGIC's; STATUSR has four bits
+-- marks are 0 or 1; running only after INIT; ITS INIT only after the VGIC's; STATUSR has four bits; 256 interrupts unless the count
+-- was set
 unfoldable pub controlOk : Control → Bool
 controlOk c =
     leb (c .init) 1 && (leb (c .running) (c .init) && (leb (c .itsinit) (c .init)
-    && (leb (c .irqsset) 1 && (irqsOk (c .irqs) && ltb (c .status) 16))))
+    && (leb (c .irqsset) 1 && (irqsOk (c .irqs) && (ltb (c .status) 16
+    && (eqb (c .irqsset) 1 || eqb (c .irqs) 256))))))
 
 -- a base that is set is a multiple of 65,536 and its frame ends by 2^p; one that is not is 0
 unfoldable pub frameOk : ℕ → ℕ → Frame → Bool

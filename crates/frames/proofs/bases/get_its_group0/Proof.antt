@@ -24,7 +24,11 @@ base-of-requires c κs = search needs
 
 returns-3 : tie.Need-returns-3
 unfolding getItsGroup0
-returns-3 c = rw (eq-eqb _ _ (c .before .before .before .if1 .left), eq-eqb _ _ (c .before .before .if2 .left)) (c .base-of .ensures)
+returns-3 c =
+    rw (
+      eq-eqb _ _ (c .before .before .before .if1 .left),
+      eq-eqb _ _ (c .before .before .if2 .left),
+    ) (c .base-of .ensures)
 
 pub get-its-group0-spec : {M : Type 1} → statement M
 get-its-group0-spec =

@@ -17,29 +17,45 @@ refused-requires c κs = search needs
 returns : tie.Need-returns
 unfolding setGroup0
 returns c =
-    subst (Does _) (named-wrong _ _ _ (refuse (view (c .before .before .before .args .g))) _ _ _ (c .before .before .name-fault .ensures) (c .before .if1 .taken))
-    (refusing (c .before .before .before .pre .held) (c .refused .ensures))
+    let s = c .before .before .before in
+    let e = c .before .before .name-fault .ensures in
+    subst (Does _) (named-wrong _ _ _ (refuse (view (s .args .g))) _ _ _ e (c .before .if1 .taken))
+    (refusing (s .pre .held) (c .refused .ensures))
 
 set-distributor-requires : tie.Need-set-distributor-requires
 set-distributor-requires c κs = search needs
 
 returns-2 : tie.Need-returns-2
 unfolding setGroup0
-returns-2 c = subst (Does _) (first _ _ _ (refuse (view (c .before .before .before .before .args .g))) _ _ _ (c .before .before .before .name-fault .ensures) (c .before .before .if1 .left) (c .before .if2 .taken)) (c .set-distributor .ensures)
+returns-2 c =
+    let s = c .before .before .before .before in
+    let e = c .before .before .before .name-fault .ensures in
+    subst (Does _) (first _ _ _ (refuse (view (s .args .g))) _ _ _ e (c .before .before .if1 .left) (c .before .if2 .taken))
+    (c .set-distributor .ensures)
 
 set-single-requires : tie.Need-set-single-requires
 set-single-requires c κs = search needs
 
 returns-3 : tie.Need-returns-3
 unfolding setGroup0
-returns-3 c = subst (Does _) (second _ _ _ (refuse (view (c .before .before .before .before .before .args .g))) _ _ _ (c .before .before .before .before .name-fault .ensures) (c .before .before .before .if1 .left) (c .before .before .if2 .left) (c .before .if3 .taken)) (c .set-single .ensures)
+returns-3 c =
+    let s = c .before .before .before .before .before in
+    let e = c .before .before .before .before .name-fault .ensures in
+    subst (Does _)
+    (second _ _ _ (refuse (view (s .args .g))) _ _ _ e (c .before .before .before .if1 .left) (c .before .before .if2 .left) (c .before .if3 .taken))
+    (c .set-single .ensures)
 
 add-region-requires : tie.Need-add-region-requires
 add-region-requires c κs = search needs
 
 returns-4 : tie.Need-returns-4
 unfolding setGroup0
-returns-4 c = subst (Does _) (third _ _ _ (refuse (view (c .before .before .before .before .before .args .g))) _ _ _ (c .before .before .before .before .name-fault .ensures) (c .before .before .before .if1 .left) (c .before .before .if2 .left) (c .before .if3 .left)) (c .add-region .ensures)
+returns-4 c =
+    let s = c .before .before .before .before .before in
+    let e = c .before .before .before .before .name-fault .ensures in
+    subst (Does _)
+    (third _ _ _ (refuse (view (s .args .g))) _ _ _ e (c .before .before .before .if1 .left) (c .before .before .if2 .left) (c .before .if3 .left))
+    (c .add-region .ensures)
 
 pub set-group0-spec : {M : Type 1} → statement M
 set-group0-spec =

@@ -18,7 +18,11 @@ refused-requires-2 c κs = search needs
 
 returns-2 : tie.Need-returns-2
 unfolding setItsGroup0
-returns-2 c = rw (eq-eqb _ _ (c .before .before .if1 .left), ne-eqb _ _ (c .before .if2 .taken)) (refusing (c .before .before .before .pre .held) (c .refused2 .ensures))
+returns-2 c =
+    rw (
+      eq-eqb _ _ (c .before .before .if1 .left),
+      ne-eqb _ _ (c .before .if2 .taken),
+    ) (refusing (c .before .before .before .pre .held) (c .refused2 .ensures))
 
 set-its-base-requires : tie.Need-set-its-base-requires
 set-its-base-requires c κs = search needs

@@ -18,7 +18,9 @@ strikes-requires : tie.Need-strikes-requires
 strikes-requires c κs = search needs
 
 returns : tie.Need-returns
-returns c = run-low _ _ _ (c .before .before .before .before .limit .ensures) _ (c .before .before .before .ends-by .ensures) (c .before .before .if1 .taken) _ _ (c .strikes .ensures) (c .before .others .ensures .0)
+returns c =
+    run-low _ _ _ (c .before .before .before .before .limit .ensures) _ (c .before .before .before .ends-by .ensures)
+    (c .before .before .if1 .taken) _ _ (c .strikes .ensures) (c .before .others .ensures .0)
 
 returns-2 : tie.Need-returns-2
 returns-2 c = run-high _ _ _ (c .before .before .limit .ensures) _ (c .before .ends-by .ensures) (c .if1 .left)

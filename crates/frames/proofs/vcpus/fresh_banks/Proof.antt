@@ -1,7 +1,5 @@
 -- `frames::vcpus::fresh_banks` meets its contract. Assumes nothing.
 use native.Mathlib.Omega.{arith}
-use mathlib.Core.Path.{_∙_, ap, sym}
-use lib.ListN.{replicate}
 use borrow.Author.Needs.{needs}
 use Rattle.frames.proofs.Rows.{few-banks, take-replicate}
 use Rattle.frames.proofs.vcpus.fresh_banks.Statement.{statement}

@@ -20,12 +20,18 @@ refused-requires-2 c κs = search needs
 returns-2 : tie.Need-returns-2
 unfolding itsReset
 returns-2 c =
-    rw (eq-eqb _ _ (c .before .before .before .if1 .left), eq-eqb _ _ (c .before .if2 .taken)) (refusing (c .before .before .before .before .before .pre .held) (c .refused2 .ensures))
+    rw (
+      eq-eqb _ _ (c .before .before .before .if1 .left),
+      eq-eqb _ _ (c .before .if2 .taken),
+    ) (refusing (c .before .before .before .before .before .pre .held) (c .refused2 .ensures))
 
 returns-3 : tie.Need-returns-3
 unfolding itsReset
 returns-3 c =
-    rw (eq-eqb _ _ (c .before .before .if1 .left), ne-eqb _ _ (c .if2 .left)) (accepting (c .before .before .before .before .pre .held) refl refl refl)
+    rw (
+      eq-eqb _ _ (c .before .before .if1 .left),
+      ne-eqb _ _ (c .if2 .left),
+    ) (accepting (c .before .before .before .before .pre .held) refl refl refl)
 
 pub its-reset-spec : {M : Type 1} → statement M
 its-reset-spec =

@@ -1,3 +1,4 @@
+use native.Mathlib.Omega.{arith}
 use borrow.Author.Needs.{needs}
 use Rattle.guest.proofs.Guest.new.Statement.{statement}
 use Rattle.guest.proofs.Guest.new.Tie as tie
@@ -16,7 +17,9 @@ fresh-bank-requires c κs = search needs
 
 -- src/lib.rt:125:5
 returns : tie.Need-returns
-returns c = rw (c .before .no-vcpus .ensures, c .fresh-bank .ensures)
+returns c =
+    let none = c .before .no-vcpus .ensures in
+    (rw (none, c .fresh-bank .ensures), record { regions = omega arith; vcpus = omega arith; shared = omega arith })
 
 pub new-spec : {M : Type 1} → statement M
 new-spec = tie.close (tie.spec no-vcpus-requires fresh-bank-requires returns)

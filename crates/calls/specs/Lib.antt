@@ -1,0 +1,4 @@
+pub mod Groups
+pub mod Steps
+pub mod Sound
+pub mod Call

@@ -1,0 +1,193 @@
+// Every call on lent bytes: the test of the state, the step, and the state stored again.
+mod groups;
+use guest::Guest;
+use guest::Outcome;
+use guest::Reading;
+ghost use mathlib.Core.Path.{_≡_};
+ghost use lib.ListN.{length};
+ghost use Rattle.guest.specs.Machine.{view, Does};
+ghost use Rattle.rules.specs.Rules.{Kept};
+ghost use Rattle.layout.specs.Layout.{size};
+ghost use Rattle.calls.specs.Steps.{changeStep, askStep};
+ghost use Rattle.calls.specs.Sound.{Checks};
+ghost use mathlib.Core.Bool.{false};
+ghost use Prim.Native.Nat.{_<_, _^_};
+ghost use Rattle.calls.specs.Call.{changes, asks, setUp, valueOf, given, answered, Gives};
+
+// Calls that may change the state. Attributes come with the width of the lent value and its number.
+pub enum Change {
+    AddVcpu(u64),
+    Start,
+    Stop,
+    VgicSet(u64, u64, u64, u64),
+    ItsSet(u64, u64, u64, u64),
+    SetPending(u64, u64),
+    ClearPending(u64, u64),
+    Activate(u64, u64),
+    Line(u64, u64, u64),
+    Trigger(u64, u64, u64),
+}
+
+// Calls that only ask.
+pub enum Question {
+    VgicGet(u64, u64, u64, u64),
+    ItsGet(u64, u64, u64),
+    RedistBase(u64),
+    Pending(u64, u64),
+}
+
+// Whether bytes are sound, and the guest that they stand for if they are.
+pub struct Checked {
+    pub sound: bool,
+    pub guest: Guest,
+}
+
+pub fn step(g: Guest, c: Change) -> Outcome
+    requires { ⌜ Kept g ⌝ }
+    ensures { λ r. ⌜ Does r (changeStep c (view g)) ⌝ }
+{
+    match c {
+        Change::AddVcpu(affinity) => frames::vcpus::add_vcpu(g, affinity),
+        Change::Start => frames::vcpus::set_running(g, 1),
+        Change::Stop => frames::vcpus::set_running(g, 0),
+        Change::VgicSet(group, attribute, width, value) => groups::vgic_set(g, group, attribute, width, value),
+        Change::ItsSet(group, attribute, width, value) => groups::its_set(g, group, attribute, width, value),
+        Change::SetPending(vcpu, intid) => irqs::calls::irq_set(g, vcpu, intid),
+        Change::ClearPending(vcpu, intid) => irqs::calls::irq_clear(g, vcpu, intid),
+        Change::Activate(vcpu, intid) => irqs::calls::irq_clear(g, vcpu, intid),
+        Change::Line(vcpu, intid, level) => irqs::calls::irq_line(g, vcpu, intid, level),
+        Change::Trigger(vcpu, intid, word) => irqs::calls::irq_trigger(g, vcpu, intid, word),
+    }
+}
+
+pub fn answer(g: Guest, q: Question) -> Reading
+    requires { ⌜ Kept g ⌝ }
+    ensures { λ r. ⌜ r ≡ askStep q (view g) ⌝ }
+{
+    match q {
+        Question::VgicGet(group, attribute, width, value) => groups::vgic_get(g, group, attribute, width, value),
+        Question::ItsGet(group, attribute, width) => groups::its_get(g, group, attribute, width),
+        Question::RedistBase(vcpu) => frames::init::redist_base(g, vcpu),
+        Question::Pending(vcpu, intid) => irqs::calls::irq_pending(g, vcpu, intid),
+    }
+}
+
+fn unsound() -> Checked
+    ensures { λ r. ⌜ r .sound ≡ false ⌝ }
+{
+    Checked {
+        sound: false,
+        guest: Guest::new(0, 0, 0),
+    }
+}
+
+// The test that every call makes first.
+pub fn examine(s: &[u8]) -> Checked
+    requires { ⌜ length (now s) ≡ size ⌝ }
+    ensures { λ r. ⌜ Checks (now (s .entry)) r ⌝ }
+{
+    if !layout::counts_ok(s) {
+        return unsound();
+    }
+    if !layout::mapping_empty(s) {
+        return unsound();
+    }
+    let g = layout::load_guest(s);
+    if !keeps::keeps_rules(g) {
+        return unsound();
+    }
+    Checked {
+        sound: true,
+        guest: g,
+    }
+}
+
+pub fn apply(state: &mut [u8], c: Change) -> i64
+    ensures { λ r. ⌜ Gives (changes c (now (state .entry))) r (now (state .exit)) ⌝ }
+{
+    if state.len() != 11400 {
+        return -14;
+    }
+    let k = examine(state);
+    if !k.sound {
+        return -22;
+    }
+    let g = k.guest;
+    let o = step(g, c);
+    let errno = o.errno;
+    if errno != 0 {
+        return answers::refuse(errno);
+    }
+    let next = o.guest;
+    layout::store_guest(state, next);
+    0
+}
+
+pub fn ask(state: &[u8], q: Question) -> Reading
+    ensures { λ r. ⌜ r ≡ asks q (now (state .entry)) ⌝ }
+{
+    if state.len() != 11400 {
+        return guest::told(14, 0);
+    }
+    let k = examine(state);
+    if !k.sound {
+        return guest::told(22, 0);
+    }
+    let g = k.guest;
+    answer(g, q)
+}
+
+// Makes a fresh guest of any bytes of the right length.
+pub fn set_up(state: &mut [u8], width: u64, start: u64, length: u64) -> i64
+    ensures { λ r. ⌜ Gives (setUp width start length (now (state .entry))) r (now (state .exit)) ⌝ }
+{
+    if state.len() != 11400 {
+        return -14;
+    }
+    let g = Guest::new(width, start, length);
+    let memory = g.memory;
+    if !keeps::memory_ok(memory) {
+        return -22;
+    }
+    layout::clear_mapping(state);
+    layout::store_guest(state, g);
+    0
+}
+
+// The number that a lent value stands for.
+pub fn value_of(value: &[u8]) -> u64
+    ensures { λ r. ⌜ r ≡ valueOf (now (value .entry)) ⌝ }
+{
+    if value.len() == 4 {
+        return words::get32(value, 0);
+    }
+    if value.len() == 8 {
+        return words::get64(value, 0);
+    }
+    0
+}
+
+// Fills a lent value with what a question came to.
+pub fn give(value: &mut [u8], r: Reading) -> i64
+    requires { ⌜ r .errno < 4096 ⌝ }
+    ensures { λ a. ⌜ Gives (given r (now (value .entry))) a (now (value .exit)) ⌝ }
+{
+    let errno = r.errno;
+    if errno != 0 {
+        return answers::refuse(errno);
+    }
+    words::fill(value, r.number);
+    0
+}
+
+// What a question for a number came to.
+pub fn tell(r: Reading) -> i64
+    requires { ⌜ (r .errno < 4096) × (r .number < 2 ^ 63) ⌝ }
+    ensures { λ a. ⌜ a ≡ answered r ⌝ }
+{
+    let errno = r.errno;
+    if errno != 0 {
+        return answers::refuse(errno);
+    }
+    answers::done(r.number)
+}

@@ -1,0 +1,4 @@
+pub mod Lists
+pub mod Sound
+pub mod Calls
+pub mod Answers

@@ -1,0 +1,1 @@
+// Laws: the calls on interrupts keep the rules.
