@@ -1,0 +1,55 @@
+-- How large the errno and the number of a question are.
+use Prim.Native.Nat.{ℕ, suc, _≤_, _<_, _^_}
+use native.Mathlib.Nat.{lt-of-le-of-lt}
+use native.Mathlib.Omega.{arith}
+use mathlib.Core.Path.{_≡_, refl}
+use mathlib.Core.Bool.{Bool, true, false}
+use mathlib.Core.List.{List, [], _∷_}
+use lib.ListN.{length, getD}
+use lib.Dec.{eqb, lit<}
+use Rattle.lists.proofs.All.{none, more}
+use Rattle.words.proofs.Bytes.{Bytes}
+use Rattle.guest.specs.declared.Reading.{Reading}
+use Rattle.rules.specs.Rules.{rules}
+use Rattle.layout.specs.Layout.{size, decode, countsOk, mappingEmpty}
+use Rattle.layout.proofs.Typed.{decode-words}
+use Rattle.kept.specs.Good.{Good}
+use Rattle.kept.proofs.Choice.{chosen, choose-by, and-right}
+use Rattle.kept.proofs.Readings.{redistBase-small}
+use Rattle.irqkept.proofs.Answers.{listed-small, irqPending-small}
+use Rattle.calls.specs.declared.Question.{Question}
+use Rattle.calls.specs.declared.Question.the-variants.{RedistBase, Pending}
+use Rattle.calls.specs.Steps.{askStep}
+use Rattle.calls.specs.Sound.{sound}
+use Rattle.calls.specs.Call.{asks}
+use Rattle.calls.proofs.Answers.{ask-known}
+
+pub bytes-from : (l : List ℕ) → ((k : ℕ) → getD l k 0 < 256) → Bytes l
+bytes-from [] h = none
+bytes-from (x ∷ xs) h = more (h 0) (bytes-from xs (λ k. h (suc k)))
+
+-- sound bytes stand for a good machine
+pub good-decode : (s : List ℕ) → Bytes s → sound s ≡ true → Good (decode s)
+unfolding sound
+good-decode s b h =
+    record { words = decode-words s b; rules = and-right (mappingEmpty s) _ (and-right (countsOk s) _ h) }
+
+pub asks-small : (q : Question) (s : List ℕ) → asks q s .errno < 4096
+unfolding asks
+asks-small q s =
+    chosen (λ (r : Reading). r .errno < 4096) (eqb (length s) size)
+    (chosen (λ (r : Reading). r .errno < 4096) (sound s) (listed-small _ (ask-known (decode s) q)) (lit< tt))
+    (lit< tt)
+
+number-small : (q : Question) (s : List ℕ) → (sound s ≡ true → askStep q (decode s) .number < 2 ^ 63) → asks q s .number < 2 ^ 63
+unfolding asks
+number-small q s h =
+    chosen (λ (r : Reading). r .number < 2 ^ 63) (eqb (length s) size)
+    (choose-by (λ (r : Reading). r .number < 2 ^ 63) (sound s) h (λ _. lit< tt))
+    (lit< tt)
+
+pub redist-number : (k : ℕ) (s : List ℕ) → Bytes s → asks (RedistBase k) s .number < 2 ^ 63
+redist-number k s b = number-small (RedistBase k) s (λ h. redistBase-small k (decode s) (good-decode s b h))
+
+pub pending-number : (k i : ℕ) (s : List ℕ) → asks (Pending k i) s .number < 2 ^ 63
+pending-number k i s = number-small (Pending k i) s (λ h. let e = irqPending-small k i (decode s) in lt-of-le-of-lt e (lit< tt))

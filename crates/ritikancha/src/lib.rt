@@ -1,0 +1,133 @@
+// The C interface. Every promise is an equation with a definition, for every input; none asks anything of the caller.
+use calls::Change;
+use calls::Question;
+ghost use mathlib.Core.Path.{_≡_};
+ghost use lib.IntN.{pos};
+ghost use lib.ListN.{length};
+ghost use Rattle.layout.specs.Layout.{size};
+ghost use Rattle.calls.specs.declared.Change.{Change};
+ghost use Rattle.calls.specs.declared.Question.{Question};
+ghost use Rattle.calls.specs.Call.{changes, asks, setUp, valueOf, given, answered, Gives};
+
+// The length of a guest's state in bytes.
+#[no_mangle]
+pub extern "C" fn rk_state_len() -> i64
+    ensures { λ r. ⌜ r ≡ pos size ⌝ }
+{
+    11400
+}
+
+// Makes a fresh guest of any bytes of the right length.
+#[no_mangle]
+pub extern "C" fn rk_setup(state: &mut [u8], width: u64, start: u64, length: u64) -> i64
+    ensures { λ r. ⌜ Gives (setUp width start length (now (state .entry))) r (now (state .exit)) ⌝ }
+{
+    calls::set_up(state, width, start, length)
+}
+
+#[no_mangle]
+pub extern "C" fn rk_vcpu_add(state: &mut [u8], affinity: u32) -> i64
+    ensures { λ r. ⌜ Gives (changes (Change.AddVcpu affinity) (now (state .entry))) r (now (state .exit)) ⌝ }
+{
+    calls::apply(state, Change::AddVcpu(affinity as u64))
+}
+
+#[no_mangle]
+pub extern "C" fn rk_vcpus_start(state: &mut [u8]) -> i64
+    ensures { λ r. ⌜ Gives (changes Change.Start (now (state .entry))) r (now (state .exit)) ⌝ }
+{
+    calls::apply(state, Change::Start)
+}
+
+#[no_mangle]
+pub extern "C" fn rk_vcpus_stop(state: &mut [u8]) -> i64
+    ensures { λ r. ⌜ Gives (changes Change.Stop (now (state .entry))) r (now (state .exit)) ⌝ }
+{
+    calls::apply(state, Change::Stop)
+}
+
+#[no_mangle]
+pub extern "C" fn rk_vgic_set(state: &mut [u8], group: u64, attribute: u64, value: &[u8]) -> i64
+    ensures { λ r. ⌜ Gives (changes (Change.VgicSet group attribute (length (now (value .entry))) (valueOf (now (value .entry)))) (now (state .entry))) r (now (state .exit)) ⌝ }
+{
+    let width = value.len() as u64;
+    let number = calls::value_of(value);
+    calls::apply(state, Change::VgicSet(group, attribute, width, number))
+}
+
+#[no_mangle]
+pub extern "C" fn rk_its_set(state: &mut [u8], group: u64, attribute: u64, value: &[u8]) -> i64
+    ensures { λ r. ⌜ Gives (changes (Change.ItsSet group attribute (length (now (value .entry))) (valueOf (now (value .entry)))) (now (state .entry))) r (now (state .exit)) ⌝ }
+{
+    let width = value.len() as u64;
+    let number = calls::value_of(value);
+    calls::apply(state, Change::ItsSet(group, attribute, width, number))
+}
+
+#[no_mangle]
+pub extern "C" fn rk_vgic_get(state: &[u8], group: u64, attribute: u64, value: &mut [u8]) -> i64
+    ensures { λ r. ⌜ Gives (given (asks (Question.VgicGet group attribute (length (now (value .entry))) (valueOf (now (value .entry)))) (now (state .entry))) (now (value .entry))) r (now (value .exit)) ⌝ }
+{
+    let width = value.len() as u64;
+    let number = calls::value_of(value);
+    let r = calls::ask(state, Question::VgicGet(group, attribute, width, number));
+    calls::give(value, r)
+}
+
+#[no_mangle]
+pub extern "C" fn rk_its_get(state: &[u8], group: u64, attribute: u64, value: &mut [u8]) -> i64
+    ensures { λ r. ⌜ Gives (given (asks (Question.ItsGet group attribute (length (now (value .entry)))) (now (state .entry))) (now (value .entry))) r (now (value .exit)) ⌝ }
+{
+    let width = value.len() as u64;
+    let r = calls::ask(state, Question::ItsGet(group, attribute, width));
+    calls::give(value, r)
+}
+
+#[no_mangle]
+pub extern "C" fn rk_redist_base(state: &[u8], vcpu: u64) -> i64
+    ensures { λ r. ⌜ r ≡ answered (asks (Question.RedistBase vcpu) (now (state .entry))) ⌝ }
+{
+    calls::tell(calls::ask(state, Question::RedistBase(vcpu)))
+}
+
+#[no_mangle]
+pub extern "C" fn rk_irq_pending(state: &[u8], vcpu: u64, intid: u64) -> i64
+    ensures { λ r. ⌜ r ≡ answered (asks (Question.Pending vcpu intid) (now (state .entry))) ⌝ }
+{
+    calls::tell(calls::ask(state, Question::Pending(vcpu, intid)))
+}
+
+#[no_mangle]
+pub extern "C" fn rk_irq_set_pending(state: &mut [u8], vcpu: u64, intid: u64) -> i64
+    ensures { λ r. ⌜ Gives (changes (Change.SetPending vcpu intid) (now (state .entry))) r (now (state .exit)) ⌝ }
+{
+    calls::apply(state, Change::SetPending(vcpu, intid))
+}
+
+#[no_mangle]
+pub extern "C" fn rk_irq_clear_pending(state: &mut [u8], vcpu: u64, intid: u64) -> i64
+    ensures { λ r. ⌜ Gives (changes (Change.ClearPending vcpu intid) (now (state .entry))) r (now (state .exit)) ⌝ }
+{
+    calls::apply(state, Change::ClearPending(vcpu, intid))
+}
+
+#[no_mangle]
+pub extern "C" fn rk_irq_activate(state: &mut [u8], vcpu: u64, intid: u64) -> i64
+    ensures { λ r. ⌜ Gives (changes (Change.Activate vcpu intid) (now (state .entry))) r (now (state .exit)) ⌝ }
+{
+    calls::apply(state, Change::Activate(vcpu, intid))
+}
+
+#[no_mangle]
+pub extern "C" fn rk_irq_line(state: &mut [u8], vcpu: u64, intid: u64, level: u64) -> i64
+    ensures { λ r. ⌜ Gives (changes (Change.Line vcpu intid level) (now (state .entry))) r (now (state .exit)) ⌝ }
+{
+    calls::apply(state, Change::Line(vcpu, intid, level))
+}
+
+#[no_mangle]
+pub extern "C" fn rk_irq_trigger(state: &mut [u8], vcpu: u64, intid: u64, word: u32) -> i64
+    ensures { λ r. ⌜ Gives (changes (Change.Trigger vcpu intid word) (now (state .entry))) r (now (state .exit)) ⌝ }
+{
+    calls::apply(state, Change::Trigger(vcpu, intid, word as u64))
+}
