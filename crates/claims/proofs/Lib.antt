@@ -1,0 +1,3 @@
+pub mod Demand1
+pub mod Stored
+pub mod Demand2

@@ -1,0 +1,32 @@
+-- What is claimed of every call.
+use Prim.Native.Nat.{ℕ, _<_, _^_}
+use mathlib.Core.Path.{_≡_}
+use mathlib.Core.Bool.{true}
+use mathlib.Core.List.{List}
+use Rattle.answers.specs.Errno.{listed}
+use Rattle.answers.specs.Answer.{refusal, done}
+use Rattle.claims.specs.Step.{Call, After, stateLen, vcpusStart, vcpusStop, setup, vcpuAdd, redistBase, vgicSet, itsSet, vgicGet, itsGet, irqPending, irqSetPending, irqClearPending, irqActivate, irqLine, irqTrigger}
+
+-- "Success is 0 or more, a refusal is the negated errno": a listed one, and then the state and the lent value stay
+pub data Answers (s v : List ℕ) (a : After) : Type 0 where
+  succeeds : (n : ℕ) → a .answer ≡ done n → Answers s v a
+  refuses : (e : ℕ) → listed e ≡ true → a .answer ≡ refusal e → a .state ≡ s → a .lent ≡ v → Answers s v a
+
+-- the numbers of a call as C passes them: two of them have 32 bits
+abbrev pub Passed : Call → Type 0
+Passed (vcpuAdd affinity) = affinity < 2 ^ 32
+Passed (irqTrigger vcpu intid word) = word < 2 ^ 32
+Passed stateLen = Unit {0}
+Passed vcpusStart = Unit {0}
+Passed vcpusStop = Unit {0}
+Passed (setup width start len) = Unit {0}
+Passed (redistBase vcpu) = Unit {0}
+Passed (vgicSet group attribute) = Unit {0}
+Passed (itsSet group attribute) = Unit {0}
+Passed (vgicGet group attribute) = Unit {0}
+Passed (itsGet group attribute) = Unit {0}
+Passed (irqPending vcpu intid) = Unit {0}
+Passed (irqSetPending vcpu intid) = Unit {0}
+Passed (irqClearPending vcpu intid) = Unit {0}
+Passed (irqActivate vcpu intid) = Unit {0}
+Passed (irqLine vcpu intid level) = Unit {0}

@@ -1,0 +1,1 @@
+// The claims over every public call: definitions and theorems.

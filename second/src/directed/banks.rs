@@ -1,0 +1,666 @@
+//! Section "Banks of 32 interrupts".
+
+use super::case::{Case, VGIC};
+
+pub const CASES: &[(&str, fn(&mut Case))] = &[
+    ("fresh banks are all 0", fresh),
+    ("a level interrupt is pending by latch or level", level_pending),
+    ("clear and activation do not lower a level that is held", level_held),
+    ("an edge interrupt is pending by its latch alone", edge_pending),
+    ("a rise of an edge interrupt raises its latch", edge_rise),
+    ("a level that stays 1 is no rise", no_second_rise),
+    ("guest set, clear and activation change the named latch alone", named_latch),
+    ("activation lowers the latch as clear does", activation),
+    ("a trigger write stores the bank's whole word and nothing else", trigger_word),
+    ("a trigger write changes no latch and no level", trigger_alone),
+    ("fresh interrupts from 16 on are level", fresh_level),
+    ("SGIs ignore line changes", sgi_line),
+    ("SGIs take guest set, clear and activation", sgi_latch),
+    ("a trigger write by an SGI stores the other bits of the bank", sgi_trigger),
+    ("a bad VCPU is -22 for every INTID", bad_vcpu),
+    ("an INTID above 1,023 is -22", bad_intid),
+    ("a line level above 1 is -22, for SGIs and absent INTIDs too", bad_level),
+    ("which VCPU is named matters below INTID 32 alone", vcpu_matters),
+    ("latch words are written whole", latch_words),
+    ("0x200 and 0x280+4n read 0 and ignore writes", zero_words),
+    ("every offset of group 1", distributor_offsets),
+    ("group 1 ignores attribute bits 63:32", distributor_high_bits),
+    ("every offset of group 5", redistributor_offsets),
+    ("group 5 names the VCPU by its affinity", redistributor_affinity),
+    ("a redistributor's latch word holds SGI bits too", redistributor_latch),
+    ("STATUSR keeps the low 4 bits, one for each frame", status),
+    ("running is -16 in groups 1 and 5, get and set", running),
+    ("group 7 stores the level word without edge detection", level_words),
+    ("a rise is from the stored level, group 7's too", rise_from_stored),
+    ("group 7 leaves SGI levels 0", level_sgis),
+    ("group 7: bad info or vINTID (P11) is -22", level_faults),
+    ("group 7 looks up the affinity for vINTID 0 only", level_affinity),
+    ("group 7 and the interrupt calls work while running", level_running),
+    ("banks at or above the count read 0 and ignore writes", absent_banks),
+    ("the default count ends at INTID 255", default_count),
+    ("with 1,024 interrupts the last bank has all 32 bits", last_bank),
+    ("one VCPU's bank is not another's", isolation),
+    ("the latch word is the latch, not pending", latch_is_not_pending),
+];
+
+const ONES: u32 = u32::MAX;
+
+fn fresh(c: &mut Case) {
+    c.put(3, 0, 1024, 0);
+    c.ready(2);
+    for vcpu in 0..2 {
+        for intid in 0..1024 {
+            c.pending(vcpu, intid, 0);
+        }
+        c.word(5, (vcpu << 32) + 0x10200, 0);
+        c.word(5, (vcpu << 32) + 0x10, 0);
+        c.word(7, vcpu << 32, 0);
+    }
+    for bank in 1..32 {
+        c.word(1, 0x200 + 4 * bank, 0);
+        c.word(7, 32 * bank, 0);
+    }
+    c.word(1, 0x10, 0);
+}
+
+fn level_pending(c: &mut Case) {
+    c.ready(1);
+    for intid in [16, 31, 32, 100, 255] {
+        c.line(0, intid, 1, 0);
+        c.pending(0, intid, 1);
+        c.line(0, intid, 0, 0);
+        c.pending(0, intid, 0);
+        c.raise(0, intid, 0);
+        c.pending(0, intid, 1);
+        c.line(0, intid, 1, 0);
+        c.line(0, intid, 0, 0);
+        c.pending(0, intid, 1);
+        c.clear(0, intid, 0);
+        c.pending(0, intid, 0);
+    }
+}
+
+fn level_held(c: &mut Case) {
+    c.ready(1);
+    c.raise(0, 40, 0);
+    c.line(0, 40, 1, 0);
+    c.clear(0, 40, 0);
+    c.pending(0, 40, 1);
+    c.activate(0, 40, 0);
+    c.pending(0, 40, 1);
+    c.line(0, 40, 0, 0);
+    c.pending(0, 40, 0);
+    // A guest set while the line is held is latched all the same.
+    c.line(0, 40, 1, 0);
+    c.raise(0, 40, 0);
+    c.word(1, 0x204, 1 << 8);
+    c.line(0, 40, 0, 0);
+    c.pending(0, 40, 1);
+}
+
+fn edge_pending(c: &mut Case) {
+    c.ready(1);
+    c.trigger(0, 40, 1 << 8, 0);
+    c.line(0, 40, 1, 0);
+    c.pending(0, 40, 1);
+    c.clear(0, 40, 0);
+    c.pending(0, 40, 0);
+    c.word(7, 32, 1 << 8);
+    c.raise(0, 40, 0);
+    c.pending(0, 40, 1);
+    c.activate(0, 40, 0);
+    c.pending(0, 40, 0);
+}
+
+fn edge_rise(c: &mut Case) {
+    c.ready(1);
+    c.trigger(0, 16, 1 << 20, 0);
+    c.trigger(0, 64, 1, 0);
+    for intid in [20, 64] {
+        c.line(0, intid, 1, 0);
+        c.line(0, intid, 0, 0);
+        c.pending(0, intid, 1);
+        c.activate(0, intid, 0);
+        c.pending(0, intid, 0);
+        c.line(0, intid, 1, 0);
+        c.pending(0, intid, 1);
+    }
+    c.word(1, 0x208, 1);
+    c.word(5, 0x10200, 1 << 20);
+}
+
+fn no_second_rise(c: &mut Case) {
+    c.ready(1);
+    c.trigger(0, 40, ONES, 0);
+    c.line(0, 40, 1, 0);
+    c.clear(0, 40, 0);
+    c.line(0, 40, 1, 0);
+    c.pending(0, 40, 0);
+    c.line(0, 40, 0, 0);
+    c.pending(0, 40, 0);
+    c.line(0, 40, 0, 0);
+    c.pending(0, 40, 0);
+    c.line(0, 40, 1, 0);
+    c.pending(0, 40, 1);
+}
+
+fn named_latch(c: &mut Case) {
+    c.ready(2);
+    c.raise(0, 70, 0);
+    c.raise(0, 72, 0);
+    c.word(1, 0x208, 1 << 6 | 1 << 8);
+    c.raise(0, 71, 0);
+    c.word(1, 0x208, 7 << 6);
+    c.clear(0, 71, 0);
+    c.word(1, 0x208, 1 << 6 | 1 << 8);
+    c.activate(0, 70, 0);
+    c.word(1, 0x208, 1 << 8);
+    c.word(1, 0x204, 0);
+    c.word(1, 0x20c, 0);
+    c.word(7, 64, 0);
+}
+
+fn activation(c: &mut Case) {
+    c.ready(1);
+    for intid in [3, 20, 50] {
+        c.raise(0, intid, 0);
+        c.pending(0, intid, 1);
+        c.activate(0, intid, 0);
+        c.pending(0, intid, 0);
+    }
+}
+
+/// Reads a bank's trigger word by what it does: with all levels up and no latch, level interrupts alone are pending.
+fn held_trigger(c: &mut Case, bank: u64, want: u32) {
+    c.put(1, 0x200 + 4 * bank, 0, 0);
+    c.put(7, 32 * bank, ONES, 0);
+    for n in 0..32 {
+        c.pending(0, 32 * bank + n, 1 - (want >> n & 1) as i64);
+    }
+}
+
+fn trigger_word(c: &mut Case) {
+    c.ready(1);
+    c.trigger(0, 35, 0x8000_0001, 0);
+    c.trigger(0, 64, 0x0f0f_0f0f, 0);
+    c.trigger(0, 127, 0xffff_0000, 0);
+    held_trigger(c, 1, 0x8000_0001);
+    held_trigger(c, 2, 0x0f0f_0f0f);
+    held_trigger(c, 3, 0xffff_0000);
+    held_trigger(c, 4, 0);
+    c.trigger(0, 95, 0x1234_5678, 0);
+    held_trigger(c, 2, 0x1234_5678);
+    held_trigger(c, 1, 0x8000_0001);
+}
+
+fn trigger_alone(c: &mut Case) {
+    c.ready(1);
+    c.put(1, 0x204, 0x00ff_00ff, 0);
+    c.put(7, 32, 0x0000_ffff, 0);
+    for word in [ONES, 0, 0x5555_5555] {
+        c.trigger(0, 40, word, 0);
+        c.word(1, 0x204, 0x00ff_00ff);
+        c.word(7, 32, 0x0000_ffff);
+    }
+    // INTID 40 is level 1 without a latch: hidden while edge, back when level again.
+    c.trigger(0, 40, ONES, 0);
+    c.pending(0, 40, 0);
+    c.trigger(0, 40, 0, 0);
+    c.pending(0, 40, 1);
+    c.line(0, 40, 0, 0);
+    c.pending(0, 40, 0);
+}
+
+fn fresh_level(c: &mut Case) {
+    c.put(3, 0, 1024, 0);
+    c.ready(1);
+    for intid in 16..1024 {
+        c.line(0, intid, 1, 0);
+        c.pending(0, intid, 1);
+        c.line(0, intid, 0, 0);
+        c.pending(0, intid, 0);
+    }
+}
+
+fn sgi_line(c: &mut Case) {
+    c.ready(1);
+    for intid in 0..16 {
+        c.line(0, intid, 1, 0);
+        c.pending(0, intid, 0);
+        c.line(0, intid, 0, 0);
+        c.line(0, intid, 1, 0);
+    }
+    c.word(7, 0, 0);
+    c.word(5, 0x10200, 0);
+    c.line(0, 16, 1, 0);
+    c.word(7, 0, 1 << 16);
+}
+
+fn sgi_latch(c: &mut Case) {
+    c.ready(1);
+    for intid in 0..16 {
+        c.raise(0, intid, 0);
+        c.pending(0, intid, 1);
+        c.word(5, 0x10200, 1 << intid);
+        c.clear(0, intid, 0);
+        c.pending(0, intid, 0);
+        c.raise(0, intid, 0);
+        c.activate(0, intid, 0);
+        c.pending(0, intid, 0);
+    }
+}
+
+fn sgi_trigger(c: &mut Case) {
+    c.ready(1);
+    c.trigger(0, 3, 0xffff_0000, 0);
+    c.line(0, 20, 1, 0);
+    c.line(0, 20, 0, 0);
+    c.pending(0, 20, 1);
+    c.trigger(0, 0, 0, 0);
+    c.clear(0, 20, 0);
+    c.line(0, 20, 1, 0);
+    c.pending(0, 20, 1);
+    c.line(0, 20, 0, 0);
+    c.pending(0, 20, 0);
+    // SGIs have stayed edge with level 0.
+    c.raise(0, 3, 0);
+    c.pending(0, 3, 1);
+    c.clear(0, 3, 0);
+    c.line(0, 3, 1, 0);
+    c.pending(0, 3, 0);
+}
+
+fn all_irq_calls(c: &mut Case, vcpu: u64, intid: u64, want: i64) {
+    c.pending(vcpu, intid, want);
+    c.raise(vcpu, intid, want);
+    c.clear(vcpu, intid, want);
+    c.activate(vcpu, intid, want);
+    c.line(vcpu, intid, 1, want);
+    c.line(vcpu, intid, 0, want);
+    c.trigger(vcpu, intid, ONES, want);
+}
+
+fn bad_vcpu(c: &mut Case) {
+    c.ready(2);
+    for vcpu in [2, 3, 64, 256, 1 << 32, (1 << 32) + 1, 1 << 63, u64::MAX] {
+        for intid in [0, 15, 16, 31, 32, 255, 256, 1023, 1024] {
+            all_irq_calls(c, vcpu, intid, -22);
+        }
+    }
+}
+
+fn bad_intid(c: &mut Case) {
+    c.ready(2);
+    for intid in [1024, 1025, 8192, 1 << 16, (1 << 16) + 40, 1 << 32, (1 << 32) + 40, 1 << 63, u64::MAX] {
+        all_irq_calls(c, 0, intid, -22);
+        all_irq_calls(c, 1, intid, -22);
+    }
+    all_irq_calls(c, 1, 1023, 0);
+    c.word(1, 0x204, 0);
+}
+
+fn bad_level(c: &mut Case) {
+    c.ready(1);
+    for level in [2, 3, 255, 256, 1 << 32, (1 << 32) + 1, 1 << 63, u64::MAX] {
+        for intid in [0, 15, 16, 40, 255, 256, 1023] {
+            c.line(0, intid, level, -22);
+        }
+    }
+    c.word(7, 32, 0);
+    c.word(7, 0, 0);
+}
+
+fn vcpu_matters(c: &mut Case) {
+    c.ready(3);
+    c.raise(0, 40, 0);
+    c.pending(1, 40, 1);
+    c.clear(2, 40, 0);
+    c.pending(0, 40, 0);
+    c.line(1, 41, 1, 0);
+    c.pending(2, 41, 1);
+    c.trigger(2, 41, ONES, 0);
+    c.pending(0, 41, 0);
+    c.raise(1, 20, 0);
+    c.pending(0, 20, 0);
+    c.pending(1, 20, 1);
+    c.pending(2, 20, 0);
+}
+
+fn latch_words(c: &mut Case) {
+    c.ready(1);
+    c.put(1, 0x204, 0xdead_beef, 0);
+    c.put(1, 0x208, 0x1234_5678, 0);
+    c.word(1, 0x204, 0xdead_beef);
+    c.word(1, 0x208, 0x1234_5678);
+    c.pending(0, 32, 1);
+    c.pending(0, 36, 0);
+    c.pending(0, 63, 1);
+    c.pending(0, 64, 0);
+    c.pending(0, 67, 1);
+    c.put(1, 0x204, 0, 0);
+    c.word(1, 0x204, 0);
+    c.pending(0, 32, 0);
+    c.word(1, 0x208, 0x1234_5678);
+    c.word(7, 32, 0);
+}
+
+fn zero_words(c: &mut Case) {
+    c.put(3, 0, 1024, 0);
+    c.ready(1);
+    for bank in 1..32 {
+        c.put(1, 0x200 + 4 * bank, ONES - bank as u32, 0);
+    }
+    c.put(5, 0x10200, ONES, 0);
+    c.word(1, 0x200, 0);
+    c.put(1, 0x200, 0x1111_1111, 0);
+    c.word(1, 0x200, 0);
+    for bank in 0..32 {
+        c.put(1, 0x280 + 4 * bank, ONES, 0);
+        c.word(1, 0x280 + 4 * bank, 0);
+    }
+    for bank in 1..32 {
+        c.word(1, 0x200 + 4 * bank, ONES - bank as u32);
+    }
+    c.word(5, 0x10200, ONES);
+    c.put(5, 0x10280, ONES, 0);
+    c.word(5, 0x10280, 0);
+    c.word(5, 0x10200, ONES);
+}
+
+fn distributor_offsets(c: &mut Case) {
+    c.ready(1);
+    for offset in (0..0x400).chain(0x1_0000..0x1_0020).chain(0x1_01f0..0x1_0300) {
+        let known = offset == 0x10 || (offset % 4 == 0 && (0x200..0x300).contains(&offset));
+        c.put(1, offset, 0, if known { 0 } else { -6 });
+        c.get(VGIC, 1, offset, &[0; 4], if known { 0 } else { -6 }, &[0; 4]);
+    }
+    for offset in [0x8000_0010, 0xffff_ffff, 0x8000_0204, 0x1204] {
+        c.put(1, offset, 0, -6);
+    }
+}
+
+fn distributor_high_bits(c: &mut Case) {
+    c.ready(1);
+    for high in [1 << 32, 1 << 40, 1 << 63, 0xffff_ffff << 32] {
+        c.put(1, high + 0x204, 0x55, 0);
+        c.word(1, 0x204, 0x55);
+        c.put(1, 0x204, 0xaa, 0);
+        c.word(1, high + 0x204, 0xaa);
+        c.word(1, high + 0x10, 0);
+        c.put(1, high + 0x14, 0, -6);
+    }
+}
+
+fn redistributor_offsets(c: &mut Case) {
+    c.ready(1);
+    for offset in (0..0x400).chain(0x1_0000..0x1_0020).chain(0x1_01f0..0x1_0300) {
+        let want = if [0x10, 0x10200, 0x10280].contains(&offset) { 0 } else { -6 };
+        c.put(5, offset, 0, want);
+        c.get(VGIC, 5, offset, &[0; 4], want, &[0; 4]);
+    }
+    c.put(5, 0x8001_0200, 0, -6);
+}
+
+fn redistributor_affinity(c: &mut Case) {
+    c.add(0x0102_0304, 0);
+    c.add(7, 0);
+    c.base(2, 0x0800_0000, 0);
+    c.base(3, 0x080a_0000, 0);
+    c.init(0);
+    c.put(5, 0x0102_0304_0001_0200, 0x11, 0);
+    c.put(5, 0x0000_0007_0001_0200, 0x22, 0);
+    c.word(5, 0x0102_0304_0001_0200, 0x11);
+    c.word(5, 0x0000_0007_0001_0200, 0x22);
+    c.pending(0, 4, 1);
+    c.pending(1, 5, 1);
+    for affinity in [0, 1, 6, 8, 0x0102_0305, 0x0302_0104, 0xffff_ffff] {
+        for offset in [0x10, 0x10200, 0x10280] {
+            c.put(5, affinity << 32 | offset, 0, -22);
+            c.no_get(VGIC, 5, affinity << 32 | offset, 4, -22);
+        }
+        c.put(5, affinity << 32 | 0x14, 0, -6);
+    }
+}
+
+fn redistributor_latch(c: &mut Case) {
+    c.ready(1);
+    c.put(5, 0x10200, 0x8001_8001, 0);
+    c.word(5, 0x10200, 0x8001_8001);
+    c.pending(0, 0, 1);
+    c.pending(0, 15, 1);
+    c.pending(0, 16, 1);
+    c.pending(0, 31, 1);
+    c.pending(0, 1, 0);
+    c.clear(0, 15, 0);
+    c.word(5, 0x10200, 0x8001_0001);
+    c.put(5, 0x10200, 0, 0);
+    c.pending(0, 0, 0);
+}
+
+fn status(c: &mut Case) {
+    c.ready(2);
+    c.put(1, 0x10, ONES, 0);
+    c.word(1, 0x10, 0xf);
+    c.word(5, 0x10, 0);
+    c.put(5, 0x10, 0x1234_5675, 0);
+    c.put(5, (1 << 32) + 0x10, 0xffff_fff8, 0);
+    c.word(5, 0x10, 5);
+    c.word(5, (1 << 32) + 0x10, 8);
+    c.word(1, 0x10, 0xf);
+    // As written: a clear bit clears, a set bit sets.
+    c.put(1, 0x10, 2, 0);
+    c.word(1, 0x10, 2);
+    c.put(1, 0x10, 0x10, 0);
+    c.word(1, 0x10, 0);
+    c.word(5, 0x10, 5);
+}
+
+fn running(c: &mut Case) {
+    c.ready(1);
+    c.put(1, 0x204, 5, 0);
+    c.start(0);
+    for (group, attribute) in
+        [(1, 0x10), (1, 0x200), (1, 0x204), (1, 0x27c), (1, 0x280), (5, 0x10), (5, 0x10200), (5, 0x10280)]
+    {
+        c.put(group, attribute, 7, -16);
+        c.no_get(VGIC, group, attribute, 4, -16);
+    }
+    c.put(1, 0x0c, 7, -6);
+    c.stop(0);
+    c.word(1, 0x204, 5);
+}
+
+fn level_words(c: &mut Case) {
+    c.ready(1);
+    c.trigger(0, 40, 0x0000_ffff, 0);
+    c.put(7, 32, 0x00ff_00ff, 0);
+    c.word(7, 32, 0x00ff_00ff);
+    c.word(1, 0x204, 0);
+    c.pending(0, 32, 0);
+    c.pending(0, 48, 1);
+    c.pending(0, 55, 1);
+    c.pending(0, 56, 0);
+    c.put(7, 32, 0, 0);
+    c.pending(0, 48, 0);
+    c.word(1, 0x204, 0);
+    c.word(7, 64, 0);
+}
+
+fn rise_from_stored(c: &mut Case) {
+    c.ready(1);
+    c.trigger(0, 40, ONES, 0);
+    c.put(7, 32, 1 << 8, 0);
+    // The level stands at 1 already: no rise.
+    c.line(0, 40, 1, 0);
+    c.pending(0, 40, 0);
+    c.put(7, 32, 0, 0);
+    c.line(0, 40, 1, 0);
+    c.pending(0, 40, 1);
+    c.clear(0, 40, 0);
+    c.line(0, 40, 0, 0);
+    c.line(0, 40, 1, 0);
+    c.pending(0, 40, 1);
+    // A level interrupt that becomes edge keeps its level: again no rise.
+    c.line(0, 70, 1, 0);
+    c.trigger(0, 70, ONES, 0);
+    c.line(0, 70, 1, 0);
+    c.pending(0, 70, 0);
+}
+
+fn level_sgis(c: &mut Case) {
+    c.ready(2);
+    c.put(7, 1 << 32, ONES, 0);
+    c.word(7, 1 << 32, 0xffff_0000);
+    c.word(7, 0, 0);
+    for intid in 0..16 {
+        c.pending(1, intid, 0);
+    }
+    c.pending(1, 16, 1);
+    c.pending(0, 16, 0);
+    c.put(7, 1 << 32, 0x0000_ffff, 0);
+    c.word(7, 1 << 32, 0);
+}
+
+fn level_faults(c: &mut Case) {
+    c.ready(1);
+    for vintid in [1, 8, 16, 31, 33, 48, 1008, 1023] {
+        c.put(7, vintid, 0, -22);
+        c.no_get(VGIC, 7, vintid, 4, -22);
+    }
+    for bit in 10..32 {
+        c.put(7, 1 << bit | 32, 0, -22);
+        c.no_get(VGIC, 7, 1 << bit, 4, -22);
+    }
+    for bank in 0..32 {
+        c.put(7, 32 * bank, 0, 0);
+    }
+}
+
+fn level_affinity(c: &mut Case) {
+    c.add(5, 0);
+    c.base(2, 0x0800_0000, 0);
+    c.base(3, 0x080a_0000, 0);
+    c.init(0);
+    c.put(7, 0, ONES, -22);
+    c.no_get(VGIC, 7, 0, 4, -22);
+    c.no_get(VGIC, 7, 0x8000_0005 << 32, 4, -22);
+    c.put(7, 5 << 32, 0x0f00_0000, 0);
+    c.word(7, 5 << 32, 0x0f00_0000);
+    c.put(7, (9 << 32) + 32, 0xf0, 0);
+    c.word(7, (8 << 32) + 32, 0xf0);
+    c.word(7, 32, 0xf0);
+    c.word(7, (5 << 32) + 32, 0xf0);
+    c.put(7, (9 << 32) + 16, 0, -22);
+}
+
+fn level_running(c: &mut Case) {
+    c.ready(1);
+    c.start(0);
+    c.put(7, 32, 1 << 8, 0);
+    c.word(7, 32, 1 << 8);
+    c.pending(0, 40, 1);
+    c.raise(0, 41, 0);
+    c.pending(0, 41, 1);
+    c.clear(0, 41, 0);
+    c.raise(0, 41, 0);
+    c.activate(0, 41, 0);
+    c.line(0, 42, 1, 0);
+    c.trigger(0, 42, ONES, 0);
+    c.pending(0, 42, 0);
+    c.put(7, 16, 0, -22);
+}
+
+fn absent_banks(c: &mut Case) {
+    c.put(3, 0, 96, 0);
+    c.ready(1);
+    for intid in [96, 97, 127, 128, 255, 1023] {
+        c.raise(0, intid, 0);
+        c.pending(0, intid, 0);
+        c.line(0, intid, 1, 0);
+        c.pending(0, intid, 0);
+        c.trigger(0, intid, ONES, 0);
+        c.clear(0, intid, 0);
+        c.activate(0, intid, 0);
+    }
+    for bank in 3..32 {
+        c.put(1, 0x200 + 4 * bank, ONES, 0);
+        c.word(1, 0x200 + 4 * bank, 0);
+        c.put(7, 32 * bank, ONES, 0);
+        c.word(7, 32 * bank, 0);
+        c.pending(0, 32 * bank, 0);
+    }
+    c.put(1, 0x208, ONES, 0);
+    c.word(1, 0x208, ONES);
+    c.put(7, 64, ONES, 0);
+    c.word(7, 64, ONES);
+    c.clear(0, 95, 0);
+    c.pending(0, 95, 1);
+}
+
+fn default_count(c: &mut Case) {
+    c.ready(1);
+    c.raise(0, 255, 0);
+    c.pending(0, 255, 1);
+    c.raise(0, 256, 0);
+    c.pending(0, 256, 0);
+    c.put(1, 0x21c, ONES, 0);
+    c.word(1, 0x21c, ONES);
+    c.put(1, 0x220, ONES, 0);
+    c.word(1, 0x220, 0);
+}
+
+fn last_bank(c: &mut Case) {
+    c.put(3, 0, 1024, 0);
+    c.ready(1);
+    c.put(1, 0x27c, ONES, 0);
+    c.word(1, 0x27c, ONES);
+    c.put(1, 0x27c, 0, 0);
+    c.put(7, 992, ONES, 0);
+    c.word(7, 992, ONES);
+    for intid in 992..1024 {
+        c.pending(0, intid, 1);
+    }
+    c.put(7, 992, 0, 0);
+    c.trigger(0, 1023, ONES, 0);
+    for intid in 1019..1024 {
+        c.line(0, intid, 1, 0);
+        c.line(0, intid, 0, 0);
+        c.pending(0, intid, 1);
+    }
+    c.word(1, 0x27c, 0xf800_0000);
+}
+
+fn isolation(c: &mut Case) {
+    c.ready(3);
+    c.put(5, 0x10200, 0x1010_1010, 0);
+    c.put(7, 2 << 32, 0x0f0f_0000, 0);
+    for intid in 0..32 {
+        all_irq_calls(c, 1, intid, 0);
+        c.raise(1, intid, 0);
+    }
+    c.put(5, (1 << 32) + 0x10200, ONES, 0);
+    c.put(7, 1 << 32, ONES, 0);
+    c.put(5, (1 << 32) + 0x10, 9, 0);
+    c.word(5, 0x10200, 0x1010_1010);
+    c.word(7, 0, 0);
+    c.word(5, (2 << 32) + 0x10200, 0);
+    c.word(7, 2 << 32, 0x0f0f_0000);
+    c.word(5, 0x10, 0);
+    c.word(1, 0x204, 0);
+    // VCPU 1's trigger write did not reach VCPU 0: its INTID 21 is level still.
+    c.line(0, 21, 1, 0);
+    c.pending(0, 21, 1);
+    c.line(0, 21, 0, 0);
+    c.word(5, 0x10200, 0x1010_1010);
+}
+
+fn latch_is_not_pending(c: &mut Case) {
+    c.ready(1);
+    c.line(0, 40, 1, 0);
+    c.word(1, 0x204, 0);
+    c.line(0, 20, 1, 0);
+    c.word(5, 0x10200, 0);
+    c.put(1, 0x204, 0, 0);
+    c.line(0, 40, 0, 0);
+    c.pending(0, 40, 0);
+}

@@ -1,0 +1,155 @@
+//! What a directed case can do: make a call and say which answer the text gives.
+
+use crate::call::{Call, Device};
+use crate::sides::Side;
+
+pub struct Case<'a> {
+    side: &'a mut dyn Side,
+    step: usize,
+    pub notes: Vec<String>,
+}
+
+pub const VGIC: Device = Device::Vgic;
+pub const ITS: Device = Device::Its;
+
+impl<'a> Case<'a> {
+    pub fn new(side: &'a mut dyn Side) -> Case<'a> {
+        Case { side, step: 0, notes: Vec::new() }
+    }
+
+    /// Makes the call with lent bytes and hands back what they hold after it.
+    pub fn lent(&mut self, call: Call, bytes: &[u8], want: i64) -> Vec<u8> {
+        let mut lent = bytes.to_vec();
+        let mut complaints = Vec::new();
+        let answer = self.side.call(&call, &mut lent, &mut complaints);
+        self.step += 1;
+        if answer != want {
+            complaints.push(format!("answered {answer}, the text says {want}"));
+        }
+        for complaint in complaints {
+            self.notes.push(format!("step {}, {call:x?}: {complaint}", self.step));
+        }
+        lent
+    }
+
+    pub fn expect(&mut self, call: Call, want: i64) {
+        self.lent(call, &[], want);
+    }
+
+    pub fn setup(&mut self, width: u64, start: u64, length: u64, want: i64) {
+        self.expect(Call::Setup { width, start, length }, want);
+    }
+
+    pub fn add(&mut self, affinity: u32, want: i64) {
+        self.expect(Call::VcpuAdd { affinity }, want);
+    }
+
+    /// VCPUs with the affinities 0, 1, 2 and so on.
+    pub fn adds(&mut self, count: u32) {
+        (0..count).for_each(|affinity| self.add(affinity, 0));
+    }
+
+    pub fn start(&mut self, want: i64) {
+        self.expect(Call::Start, want);
+    }
+
+    pub fn stop(&mut self, want: i64) {
+        self.expect(Call::Stop, want);
+    }
+
+    pub fn set(&mut self, device: Device, group: u64, attribute: u64, value: &[u8], want: i64) {
+        self.lent(Call::Set { device, group, attribute }, value, want);
+    }
+
+    /// A get of `preset` bytes; `after` is what they must hold afterwards.
+    pub fn get(&mut self, device: Device, group: u64, attribute: u64, preset: &[u8], want: i64, after: &[u8]) {
+        let held = self.lent(Call::Get { device, group, attribute }, preset, want);
+        if held != after {
+            self.notes.push(format!(
+                "step {}, get {device:?} {group:x} {attribute:x}: lent bytes {held:x?}, the text says {after:x?}",
+                self.step
+            ));
+        }
+    }
+
+    /// A get that is refused: the bytes stay.
+    pub fn no_get(&mut self, device: Device, group: u64, attribute: u64, width: usize, want: i64) {
+        let preset: Vec<u8> = (0..width).map(|n| 0xc0 | n as u8).collect();
+        self.get(device, group, attribute, &preset, want, &preset);
+    }
+
+    /// A 4-byte get that succeeds.
+    pub fn word(&mut self, group: u64, attribute: u64, want: u32) {
+        self.get(VGIC, group, attribute, &[0xee; 4], 0, &want.to_le_bytes());
+    }
+
+    /// A 4-byte set.
+    pub fn put(&mut self, group: u64, attribute: u64, word: u32, want: i64) {
+        self.set(VGIC, group, attribute, &word.to_le_bytes(), want);
+    }
+
+    /// A base of the VGIC: attribute 2 is the distributor, 3 the single run.
+    pub fn base(&mut self, attribute: u64, address: u64, want: i64) {
+        self.set(VGIC, 0, attribute, &address.to_le_bytes(), want);
+    }
+
+    pub fn its_base(&mut self, address: u64, want: i64) {
+        self.set(ITS, 0, 4, &address.to_le_bytes(), want);
+    }
+
+    pub fn held_base(&mut self, device: Device, attribute: u64, address: u64) {
+        self.get(device, 0, attribute, &[0xee; 8], 0, &address.to_le_bytes());
+    }
+
+    pub fn region_word(&mut self, word: u64, want: i64) {
+        self.set(VGIC, 0, 5, &word.to_le_bytes(), want);
+    }
+
+    pub fn region(&mut self, index: u64, base: u64, count: u64, want: i64) {
+        self.region_word(count << 52 | base | index, want);
+    }
+
+    pub fn held_region(&mut self, preset: u64, want: u64) {
+        self.get(VGIC, 0, 5, &preset.to_le_bytes(), 0, &want.to_le_bytes());
+    }
+
+    pub fn init(&mut self, want: i64) {
+        self.set(VGIC, 4, 0, &[], want);
+    }
+
+    /// A guest past INIT: distributor at 0x08000000, single run at 0x080A0000.
+    pub fn ready(&mut self, vcpus: u32) {
+        self.adds(vcpus);
+        self.base(2, 0x0800_0000, 0);
+        self.base(3, 0x080a_0000, 0);
+        self.init(0);
+    }
+
+    pub fn redist(&mut self, vcpu: u64, want: i64) {
+        self.expect(Call::RedistBase { vcpu }, want);
+    }
+
+    pub fn pending(&mut self, vcpu: u64, intid: u64, want: i64) {
+        self.expect(Call::Pending { vcpu, intid }, want);
+    }
+
+    pub fn raise(&mut self, vcpu: u64, intid: u64, want: i64) {
+        self.expect(Call::SetPending { vcpu, intid }, want);
+    }
+
+    pub fn clear(&mut self, vcpu: u64, intid: u64, want: i64) {
+        self.expect(Call::ClearPending { vcpu, intid }, want);
+    }
+
+    pub fn activate(&mut self, vcpu: u64, intid: u64, want: i64) {
+        self.expect(Call::Activate { vcpu, intid }, want);
+    }
+
+    pub fn line(&mut self, vcpu: u64, intid: u64, level: u64, want: i64) {
+        self.expect(Call::Line { vcpu, intid, level }, want);
+    }
+
+    pub fn trigger(&mut self, vcpu: u64, intid: u64, word: u32, want: i64) {
+        self.expect(Call::Trigger { vcpu, intid, word }, want);
+    }
+}

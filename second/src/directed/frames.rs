@@ -1,0 +1,604 @@
+//! Section "VCPUs and frames".
+
+use super::case::{Case, ITS, VGIC};
+
+pub const CASES: &[(&str, fn(&mut Case))] = &[
+    ("a VCPU after INIT is -16", add_after_init),
+    ("an affinity that is taken is -22, with 64 VCPUs too", taken_affinity),
+    ("affinities are 32 bits wide", wide_affinities),
+    ("start and stop: -6 before INIT, then 0 however often", start_and_stop),
+    ("a base that is no multiple of 65,536 is -22", misaligned),
+    ("a frame may end at 2^p, not above", top_of_space),
+    ("sums do not wrap", no_wrap),
+    ("a base that is set already is -17, before its other faults", set_twice),
+    ("attribute 3 while regions stand is -22", single_after_regions),
+    ("the distributor is 64 KiB, a redistributor and the ITS 128 KiB", sizes),
+    ("an overlap is -22, a neighbour is no overlap", overlaps),
+    ("-7 comes before the overlap", top_before_overlap),
+    ("before INIT the single run counts as 128 KiB", single_before_init),
+    ("at INIT the single run is whole: overlap -6", whole_overlap_at_init),
+    ("at INIT the single run is whole: end above 2^p -6", whole_top_at_init),
+    ("after INIT the single run is whole", whole_after_init),
+    ("the region word's fields (P1)", region_fields),
+    ("a region while the single run stands is -22", region_after_single),
+    ("region flags not 0 are -22", region_flags),
+    ("region count 0 is -22 (P12)", region_count_zero),
+    ("a region index that is not the number standing is -22", region_index),
+    ("with 32 regions index 32 is -12, any other -22", region_full),
+    ("the 33rd region's -12 comes before -7 and overlap", region_full_first),
+    ("a region may end at 2^p, not above", region_top),
+    ("a region's overlap is -22", region_overlap),
+    ("a refused region is not there", region_refused),
+    ("regions are allowed after INIT, single run excepted", region_after_init),
+    ("get 5 reads the index bits alone", get_region),
+    ("get 5 while the single run stands is -22", get_region_single),
+    ("get 3 while regions stand is -22; an unset base is -2", get_bases),
+    ("INIT with no VCPU is -19, before its other faults", init_no_vcpu),
+    ("INIT without a distributor or redistributor place is -6", init_missing),
+    ("INIT with region counts below the VCPUs is -6", init_counts),
+    ("a repeated INIT is 0, running too", init_again),
+    ("a refused INIT can be made good", init_made_good),
+    ("frames of VCPUs in the single run", redist_single),
+    ("frames of VCPUs in regions (P5)", redist_regions),
+    ("a VCPU's frame is where the running sum first exceeds it", redist_sums),
+    ("asking for a frame: -22 for a number not below the VCPUs", redist_bad),
+    ("the number of interrupts: 64 to 1,024 in steps of 32", count_values),
+    ("the number of interrupts is set once, before INIT", count_once),
+    ("group 0 and group 3 do not look at running", running_is_no_fault),
+    ("frames may lie over guest memory", over_memory),
+];
+
+const K64: u64 = 0x1_0000;
+const K128: u64 = 0x2_0000;
+const TOP: u64 = 1 << 40;
+
+fn add_after_init(c: &mut Case) {
+    c.ready(2);
+    c.add(9, -16);
+    c.add(0, -16);
+    c.start(0);
+    c.add(9, -16);
+}
+
+fn taken_affinity(c: &mut Case) {
+    c.add(5, 0);
+    c.add(5, -22);
+    c.add(6, 0);
+    c.add(5, -22);
+    c.add(6, -22);
+    for affinity in 100..162 {
+        c.add(affinity, 0);
+    }
+    c.add(5, -22);
+    c.add(161, -22);
+    c.add(7, -12);
+}
+
+fn wide_affinities(c: &mut Case) {
+    for affinity in [0, 0xffff_ffff, 0x8000_0000, 0x0100_0000, 0x0001_0000, 0x0000_0100, 1] {
+        c.add(affinity, 0);
+        c.add(affinity, -22);
+    }
+    c.base(2, 0x0800_0000, 0);
+    c.base(3, 0x0900_0000, 0);
+    c.init(0);
+    c.put(5, (0xffff_ffff << 32) + 0x10, 3, 0);
+    c.put(5, (0x8000_0000 << 32) + 0x10, 5, 0);
+    c.word(5, 0x10, 0);
+    c.word(5, (0xffff_ffff << 32) + 0x10, 3);
+    c.word(5, (0x8000_0000 << 32) + 0x10, 5);
+    c.no_get(VGIC, 5, (0x8000_0001 << 32) + 0x10, 4, -22);
+}
+
+fn start_and_stop(c: &mut Case) {
+    c.start(-6);
+    c.stop(-6);
+    c.ready(1);
+    c.stop(0);
+    c.word(1, 0x10, 0);
+    c.start(0);
+    c.start(0);
+    c.no_get(VGIC, 1, 0x10, 4, -16);
+    c.stop(0);
+    c.word(1, 0x10, 0);
+    c.stop(0);
+}
+
+fn misaligned(c: &mut Case) {
+    for off in [1, 2, 0x100, 0x1000, 0x8000, 0xffff] {
+        c.base(2, 0x0800_0000 + off, -22);
+        c.base(3, 0x0800_0000 + off, -22);
+        c.its_base(0x0800_0000 + off, -22);
+        // Not a multiple comes before -7.
+        c.base(2, TOP + off, -22);
+        c.base(3, u64::MAX - 0xffff + off, -22);
+    }
+    c.no_get(VGIC, 0, 2, 8, -2);
+}
+
+fn top_of_space(c: &mut Case) {
+    for attribute in [2, 3] {
+        c.base(attribute, TOP, -7);
+        c.base(attribute, TOP + K64, -7);
+        c.base(attribute, 2 * TOP, -7);
+    }
+    c.base(3, TOP - K64, -7);
+    c.its_base(TOP - K64, -7);
+    c.its_base(TOP, -7);
+    c.its_base(TOP - K128, 0);
+    c.base(2, TOP - K128 - K64, 0);
+    c.setup(40, 0, 0x1000, 0);
+    c.base(2, TOP - K64, 0);
+    c.base(3, TOP - K64 - K128, 0);
+    c.held_base(VGIC, 2, TOP - K64);
+    c.setup(40, 0, 0x1000, 0);
+    c.base(3, TOP - K128, 0);
+}
+
+fn no_wrap(c: &mut Case) {
+    c.setup(52, 0, 0x1000, 0);
+    for address in [0xffff_ffff_ffff_0000, 0xffff_ffff_fffe_0000, 1 << 63, 1 << 52] {
+        c.base(2, address, -7);
+        c.base(3, address, -7);
+        c.its_base(address, -7);
+    }
+    c.region(0, 0xf_ffff_ffff_0000, 4095, -7);
+    c.no_get(VGIC, 0, 2, 8, -2);
+}
+
+fn set_twice(c: &mut Case) {
+    c.base(2, 0x0800_0000, 0);
+    c.base(3, 0x0900_0000, 0);
+    c.its_base(0x0a00_0000, 0);
+    for address in [0x0800_0000, 0x0b00_0000, 0x0b00_0001, TOP, 0x0900_0000, u64::MAX] {
+        c.base(2, address, -17);
+        c.base(3, address, -17);
+        c.its_base(address, -17);
+    }
+    c.held_base(VGIC, 2, 0x0800_0000);
+    c.held_base(VGIC, 3, 0x0900_0000);
+    c.held_base(ITS, 4, 0x0a00_0000);
+    c.add(0, 0);
+    c.init(0);
+    c.base(2, 0x0b00_0000, -17);
+    c.base(3, 0x0b00_0000, -17);
+}
+
+fn single_after_regions(c: &mut Case) {
+    c.region(0, 0x0900_0000, 1, 0);
+    c.base(3, 0x0b00_0000, -22);
+    c.base(3, TOP, -22);
+    c.no_get(VGIC, 0, 3, 8, -22);
+}
+
+fn sizes(c: &mut Case) {
+    // The distributor is 64 KiB: its neighbour begins there, and not below.
+    c.base(2, 0x0800_0000, 0);
+    c.its_base(0x0800_0000 + K64, 0);
+    c.base(3, 0x0800_0000 + K64 + K64, -22);
+    c.base(3, 0x0800_0000 + K64 + K128, 0);
+    c.setup(40, 0, 0x1000, 0);
+    c.base(3, 0x0900_0000, 0);
+    c.base(2, 0x0900_0000 + K64, -22);
+    c.base(2, 0x0900_0000 + K128, 0);
+    c.its_base(0x0900_0000 - K64, -22);
+    c.its_base(0x0900_0000 - K128, 0);
+}
+
+fn overlaps(c: &mut Case) {
+    c.base(2, 0x0800_0000, 0);
+    c.base(3, 0x0800_0000, -22);
+    c.base(3, 0x0800_0000 - K64, -22);
+    c.its_base(0x0800_0000, -22);
+    c.its_base(0x0800_0000 - K64, -22);
+    c.its_base(0x0800_0000 - K128, 0);
+    c.base(3, 0x0800_0000 - K128, -22);
+    c.base(3, 0x0800_0000 - K128 - K64, -22);
+    c.base(3, 0x0800_0000 - K128 - K128, 0);
+    c.setup(40, 0, 0x1000, 0);
+    c.its_base(0, 0);
+    c.base(2, 0, -22);
+    c.base(2, K64, -22);
+    c.base(2, K128, 0);
+}
+
+fn top_before_overlap(c: &mut Case) {
+    c.base(2, TOP - K64, 0);
+    c.base(3, TOP - K64, -7);
+    c.its_base(TOP - K64, -7);
+    c.its_base(TOP - K128, -22);
+    c.region(0, TOP - K64, 1, -7);
+    c.region(0, TOP - K128, 1, -22);
+}
+
+fn single_before_init(c: &mut Case) {
+    c.adds(4);
+    c.base(3, 0x0900_0000, 0);
+    c.its_base(0x0900_0000 + K64, -22);
+    c.its_base(0x0900_0000 + K128, 0);
+    c.base(2, 0x0900_0000 - K64, 0);
+}
+
+fn whole_overlap_at_init(c: &mut Case) {
+    for (gap, want) in [(K128, -6), (4 * K128 - K64, -6), (4 * K128, 0)] {
+        c.setup(40, 0, 0x1000, 0);
+        c.adds(4);
+        c.base(3, 0x0900_0000, 0);
+        c.base(2, 0x0800_0000, 0);
+        c.its_base(0x0900_0000 + gap, 0);
+        c.init(want);
+        c.setup(40, 0, 0x1000, 0);
+        c.adds(4);
+        c.base(3, 0x0900_0000, 0);
+        c.base(2, 0x0900_0000 + gap, 0);
+        c.init(want);
+        c.redist(3, if want == 0 { 0x0906_0000 } else { -6 });
+    }
+}
+
+fn whole_top_at_init(c: &mut Case) {
+    for (base, want) in [(TOP - K128, -6), (TOP - 4 * K128 + K64, -6), (TOP - 4 * K128, 0)] {
+        c.setup(40, 0, 0x1000, 0);
+        c.adds(4);
+        c.base(3, base, 0);
+        c.base(2, 0x0800_0000, 0);
+        c.init(want);
+        c.start(want);
+    }
+}
+
+fn whole_after_init(c: &mut Case) {
+    c.adds(4);
+    c.base(2, 0x0800_0000, 0);
+    c.base(3, 0x0900_0000, 0);
+    c.init(0);
+    for gap in [0, K64, K128, 3 * K128, 4 * K128 - K64] {
+        c.its_base(0x0900_0000 + gap, -22);
+    }
+    c.its_base(0x0900_0000 - K64, -22);
+    c.its_base(0x0900_0000 + 4 * K128, 0);
+}
+
+fn region_fields(c: &mut Case) {
+    c.region_word(0x0010_0000_0808_0000, 0);
+    c.region_word(0x0040_0000_080a_0001, 0);
+    c.held_region(0, 0x0010_0000_0808_0000);
+    c.held_region(1, 0x0040_0000_080a_0001);
+    // Region 1 has 4 redistributors and ends at 0x08120000.
+    c.base(2, 0x0811_0000, -22);
+    c.base(2, 0x0812_0000, 0);
+    c.its_base(0x0807_0000, -22);
+    c.its_base(0x0806_0000, 0);
+    c.setup(52, 0, 0x1000, 0);
+    c.region_word(0x0010_0000_0000_0000, 0);
+    c.region_word(0x001f_ffff_fffe_0001, 0);
+    c.region_word(0xfff8_0000_0000_0002, 0);
+    c.held_region(1, 0x001f_ffff_fffe_0001);
+    c.held_region(2, 0xfff8_0000_0000_0002);
+}
+
+fn region_after_single(c: &mut Case) {
+    c.base(3, 0x0900_0000, 0);
+    c.region(0, 0x0a00_0000, 1, -22);
+    c.region(0, TOP, 1, -22);
+    c.region(32, 0x0a00_0000, 1, -22);
+    c.get(VGIC, 0, 5, &[0; 8], -22, &[0; 8]);
+}
+
+fn region_flags(c: &mut Case) {
+    for flags in 1..16 {
+        c.region_word(1 << 52 | 0x0a00_0000 | flags << 12, -22);
+    }
+    c.region_word(1 << 52 | TOP | 1 << 12, -22);
+    c.region_word(1 << 52 | 0x0a00_0000, 0);
+}
+
+fn region_count_zero(c: &mut Case) {
+    c.region(0, 0x0a00_0000, 0, -22);
+    c.region(0, TOP, 0, -22);
+    c.region(0, 0x0a00_0000, 1, 0);
+    c.region(1, 0x0b00_0000, 0, -22);
+}
+
+fn region_index(c: &mut Case) {
+    for index in [1, 2, 31, 32, 33, 0x100, 0xfff] {
+        c.region(index, 0x0a00_0000, 1, -22);
+    }
+    c.region(1, TOP, 1, -22);
+    c.region(0, 0x0a00_0000, 1, 0);
+    c.region(0, 0x0b00_0000, 1, -22);
+    c.region(2, 0x0b00_0000, 1, -22);
+    c.region(1, 0x0b00_0000, 1, 0);
+}
+
+fn fill_regions(c: &mut Case) {
+    for index in 0..32 {
+        c.region(index, 0x1000_0000 + index * K128, 1, 0);
+    }
+}
+
+fn region_full(c: &mut Case) {
+    fill_regions(c);
+    c.region(32, 0x2000_0000, 1, -12);
+    for index in [0, 1, 30, 31, 33, 34, 0x20 + 0x100, 0xfff] {
+        c.region(index, 0x2000_0000, 1, -22);
+    }
+    c.region(32, 0x2000_0000, 0, -22);
+    c.region_word(1 << 52 | 0x2000_0000 | 1 << 12 | 32, -22);
+}
+
+fn region_full_first(c: &mut Case) {
+    fill_regions(c);
+    c.region(32, TOP, 1, -12);
+    c.region(32, 0x1000_0000, 1, -12);
+    c.adds(32);
+    c.base(2, 0x0800_0000, 0);
+    c.init(0);
+    c.region(32, 0x2000_0000, 1, -12);
+    c.redist(31, 0x1000_0000 + 31 * 0x2_0000);
+}
+
+fn region_top(c: &mut Case) {
+    c.region(0, TOP - K64, 1, -7);
+    c.region(0, TOP, 1, -7);
+    c.region(0, TOP - 3 * K128 + K64, 3, -7);
+    c.region(0, TOP - K128, 4095, -7);
+    c.region(0, 0xf_ffff_ffff_0000, 1, -7);
+    c.region(0, TOP - 4095 * K128 + K64, 4095, -7);
+    c.region(0, TOP - 4095 * K128, 4095, 0);
+}
+
+fn region_overlap(c: &mut Case) {
+    c.base(2, 0x0a00_0000, 0);
+    c.its_base(0x0b00_0000, 0);
+    c.region(0, 0x0a00_0000, 1, -22);
+    c.region(0, 0x0a00_0000 - 5 * K128 + K64, 5, -22);
+    c.region(0, 0x0a00_0000 - 5 * K128, 5, 0);
+    c.region(1, 0x0b00_0000 + K64, 1, -22);
+    c.region(1, 0x0b00_0000 - K128 + K64, 1, -22);
+    c.region(1, 0x0b00_0000 + K128, 7, 0);
+    c.region(2, 0x0b00_0000 + K128, 7, -22);
+    c.region(2, 0x0b00_0000 + 8 * K128 - K64, 1, -22);
+    c.region(2, 0x0900_0000, 0x800, -22);
+    c.region(2, 0x0b00_0000 + 8 * K128, 1, 0);
+    c.region(3, 0x0a00_0000 - 6 * K128, 1, 0);
+}
+
+fn region_refused(c: &mut Case) {
+    c.region(0, TOP, 1, -7);
+    c.get(VGIC, 0, 5, &[0; 8], -2, &[0; 8]);
+    c.base(3, 0x0a00_0000, 0);
+    c.held_base(VGIC, 3, 0x0a00_0000);
+}
+
+fn region_after_init(c: &mut Case) {
+    c.adds(2);
+    c.base(2, 0x0800_0000, 0);
+    c.region(0, 0x0900_0000, 2, 0);
+    c.init(0);
+    c.start(0);
+    c.region(1, 0x0900_0000 + K128, 1, -22);
+    c.region(1, 0x0a00_0000, 9, 0);
+    c.region(1, 0x0c00_0000, 9, -22);
+    c.held_region(1, 0x0090_0000_0a00_0001);
+    c.redist(0, 0x0900_0000);
+    c.redist(1, 0x0902_0000);
+    c.base(3, 0x0c00_0000, -22);
+    c.setup(40, 0, 0x1000, 0);
+    c.ready(1);
+    c.region(0, 0x0a00_0000, 1, -22);
+}
+
+fn get_region(c: &mut Case) {
+    c.region(0, 0x0900_0000, 2, 0);
+    c.region(1, 0x0a00_0000, 3, 0);
+    c.held_region(0xffff_ffff_ffff_f001, 0x0030_0000_0a00_0001);
+    c.held_region(0x0000_0000_0000_f000, 0x0020_0000_0900_0000);
+    c.held_region(0xabcd_ef01_2345_6000, 0x0020_0000_0900_0000);
+    for index in [2u64, 3, 32, 0x100, 0x800, 0xfff] {
+        c.get(VGIC, 0, 5, &index.to_le_bytes(), -2, &index.to_le_bytes());
+    }
+}
+
+fn get_region_single(c: &mut Case) {
+    c.get(VGIC, 0, 5, &[0; 8], -2, &[0; 8]);
+    c.base(3, 0x0900_0000, 0);
+    c.get(VGIC, 0, 5, &[0; 8], -22, &[0; 8]);
+    c.get(VGIC, 0, 5, &[0xff; 8], -22, &[0xff; 8]);
+}
+
+fn get_bases(c: &mut Case) {
+    c.no_get(VGIC, 0, 2, 8, -2);
+    c.no_get(VGIC, 0, 3, 8, -2);
+    c.no_get(ITS, 0, 4, 8, -2);
+    c.region(0, 0x0900_0000, 2, 0);
+    c.no_get(VGIC, 0, 3, 8, -22);
+    c.no_get(VGIC, 0, 2, 8, -2);
+    c.base(2, 0, 0);
+    c.held_base(VGIC, 2, 0);
+    c.its_base(0xff_ffee_0000, 0);
+    c.held_base(ITS, 4, 0xff_ffee_0000);
+}
+
+fn init_no_vcpu(c: &mut Case) {
+    c.init(-19);
+    c.base(2, 0x0800_0000, 0);
+    c.init(-19);
+    c.base(3, 0x0900_0000, 0);
+    c.init(-19);
+    c.start(-6);
+}
+
+fn init_missing(c: &mut Case) {
+    c.add(0, 0);
+    c.init(-6);
+    c.base(2, 0x0800_0000, 0);
+    c.init(-6);
+    c.setup(40, 0, 0x1000, 0);
+    c.add(0, 0);
+    c.base(3, 0x0900_0000, 0);
+    c.init(-6);
+    c.setup(40, 0, 0x1000, 0);
+    c.add(0, 0);
+    c.region(0, 0x0900_0000, 2, 0);
+    c.init(-6);
+    c.its_base(0x0800_0000, 0);
+    c.init(-6);
+    c.start(-6);
+}
+
+fn init_counts(c: &mut Case) {
+    c.adds(5);
+    c.base(2, 0x0800_0000, 0);
+    c.region(0, 0x0900_0000, 2, 0);
+    c.init(-6);
+    c.region(1, 0x0a00_0000, 2, 0);
+    c.init(-6);
+    c.region(2, 0x0b00_0000, 1, 0);
+    c.init(0);
+    c.setup(40, 0, 0x1000, 0);
+    c.adds(5);
+    c.base(2, 0x0800_0000, 0);
+    c.region(0, 0x1000_0000, 4095, 0);
+    c.init(0);
+    // Sums are numbers: 256 and 4,096 are not 0.
+    for (first, second) in [(255, 1), (4095, 1)] {
+        c.setup(40, 0, 0x1000, 0);
+        c.adds(5);
+        c.base(2, 0x0800_0000, 0);
+        c.region(0, 0x1000_0000, first, 0);
+        c.region(1, 0x0900_0000, second, 0);
+        c.init(0);
+    }
+}
+
+fn init_again(c: &mut Case) {
+    c.ready(1);
+    c.init(0);
+    c.start(0);
+    c.init(0);
+    c.raise(0, 40, 0);
+    c.init(0);
+    c.pending(0, 40, 1);
+    c.no_get(VGIC, 1, 0x10, 4, -16);
+}
+
+fn init_made_good(c: &mut Case) {
+    c.init(-19);
+    c.adds(2);
+    c.init(-6);
+    c.base(2, 0x0800_0000, 0);
+    c.init(-6);
+    c.add(9, 0);
+    c.put(3, 0, 64, 0);
+    c.region(0, 0x0900_0000, 3, 0);
+    c.init(0);
+    c.redist(2, 0x0904_0000);
+    c.word(3, 0, 64);
+}
+
+fn redist_single(c: &mut Case) {
+    c.redist(0, -6);
+    c.ready(3);
+    c.redist(0, 0x080a_0000);
+    c.redist(1, 0x080c_0000);
+    c.redist(2, 0x080e_0000);
+    c.redist(3, -22);
+}
+
+fn redist_regions(c: &mut Case) {
+    c.adds(4);
+    c.base(2, 0x0800_0000, 0);
+    c.region_word(0x0010_0000_0808_0000, 0);
+    c.region_word(0x0040_0000_080a_0001, 0);
+    c.redist(2, -6);
+    c.init(0);
+    c.redist(0, 0x0808_0000);
+    c.redist(1, 0x080a_0000);
+    c.redist(2, 0x080c_0000);
+    c.redist(3, 0x080e_0000);
+    c.redist(4, -22);
+}
+
+fn redist_sums(c: &mut Case) {
+    c.adds(7);
+    c.base(2, 0x0800_0000, 0);
+    c.region(0, 0x0d00_0000, 2, 0);
+    c.region(1, 0x0a00_0000, 1, 0);
+    c.region(2, 0x0c00_0000, 3, 0);
+    c.region(3, 0x0b00_0000, 9, 0);
+    c.init(0);
+    c.redist(0, 0x0d00_0000);
+    c.redist(1, 0x0d02_0000);
+    c.redist(2, 0x0a00_0000);
+    c.redist(3, 0x0c00_0000);
+    c.redist(4, 0x0c02_0000);
+    c.redist(5, 0x0c04_0000);
+    c.redist(6, 0x0b00_0000);
+    c.redist(7, -22);
+    c.setup(52, 0, 0x1000, 0);
+    c.add(3, 0);
+    c.base(2, 0x0800_0000, 0);
+    c.region(0, 0xf_ffff_fffe_0000, 1, 0);
+    c.init(0);
+    c.redist(0, 0xf_ffff_fffe_0000);
+}
+
+fn redist_bad(c: &mut Case) {
+    c.ready(2);
+    for vcpu in [2, 3, 64, 256, 1 << 32, (1 << 32) + 1, 1 << 63, u64::MAX] {
+        c.redist(vcpu, -22);
+    }
+    c.start(0);
+    c.redist(1, 0x080c_0000);
+}
+
+fn count_values(c: &mut Case) {
+    for number in [0, 1, 32, 63, 65, 80, 95, 97, 1000, 1023, 1025, 1056, 0x1_0040, 0x8000_0000, u32::MAX] {
+        c.put(3, 0, number, -22);
+    }
+    c.word(3, 0, 256);
+    for number in [64, 96, 256, 512, 992, 1024] {
+        c.setup(40, 0, 0x1000, 0);
+        c.put(3, 0, number, 0);
+        c.word(3, 0, number);
+    }
+}
+
+fn count_once(c: &mut Case) {
+    c.put(3, 0, 33, -22);
+    c.put(3, 0, 256, 0);
+    c.put(3, 0, 256, -16);
+    c.put(3, 0, 64, -16);
+    // The value's -22 comes first.
+    c.put(3, 0, 33, -22);
+    c.put(3, 0, 2048, -22);
+    c.word(3, 0, 256);
+    c.setup(40, 0, 0x1000, 0);
+    c.ready(1);
+    c.put(3, 0, 64, -16);
+    c.put(3, 0, 65, -22);
+    c.word(3, 0, 256);
+}
+
+fn running_is_no_fault(c: &mut Case) {
+    c.ready(1);
+    c.start(0);
+    c.its_base(0x0900_0000, 0);
+    c.held_base(ITS, 4, 0x0900_0000);
+    c.held_base(VGIC, 2, 0x0800_0000);
+    c.held_base(VGIC, 3, 0x080a_0000);
+    c.word(3, 0, 256);
+    c.put(3, 0, 64, -16);
+    c.put(3, 0, 65, -22);
+    c.base(2, 0, -17);
+}
+
+fn over_memory(c: &mut Case) {
+    c.add(0, 0);
+    c.base(2, 0x4000_0000, 0);
+    c.base(3, 0x4001_0000, 0);
+    c.its_base(0x4003_0000, 0);
+    c.init(0);
+    c.redist(0, 0x4001_0000);
+}

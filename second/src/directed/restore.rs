@@ -1,0 +1,387 @@
+//! Restore and "Described".
+
+use super::case::Case;
+use super::its::MEMORY;
+use super::save::Memory;
+use crate::call::Call;
+
+pub const CASES: &[(&str, fn(&mut Case))] = &[
+    ("restore: memory's length -14, then -6, then running -16", refusals),
+    ("all-zero tables are the empty mapping (P10)", empty),
+    ("the sample image", sample),
+    ("restore replaces the mapping; a refused one keeps it", replaces),
+    ("collections: pe and repeat -22, 17th -12, all before devices", collections),
+    ("collections: bits [62:52] are not read, nor what comes after a clear V", collections_unread),
+    ("a collection table with no clear V is refused", collections_full),
+    ("device next: leaves the table, lands on a blank (P8), leads to nothing", device_next),
+    ("device next at the cap: exact, searched on, and past the end", device_cap),
+    ("entries jumped over or after the last are not read", unread),
+    ("the first device is the lowest valid entry", first_device),
+    ("device: next, size, 33rd, outside, overlap, in this order", device_order),
+    ("33 devices: -12, or -22 where the 33rd has a bad next", device_limit),
+    ("events: LPI, next (P9), ICID, 1,025th, in this order", event_order),
+    ("event next at the cap", event_cap),
+    ("a device's events come before the following device", event_before_device),
+    ("1,024 events come back, 1,025 are -12", event_limit),
+    ("pe is 36 bits and LPI 32 bits, compared whole", wide),
+    ("what was saved comes back, whatever stood elsewhere", round_trip),
+];
+
+const LENGTH: usize = 0x10_0000;
+const DEVICES: u64 = MEMORY;
+const COLLECTIONS: u64 = MEMORY + 0x1000;
+const ITT: u64 = MEMORY + 0x2000;
+
+/// A device entry with V set: next, ITT address, bits - 1.
+fn device(next: u64, itt: u64, size: u64) -> u64 {
+    1 << 63 | next << 49 | itt >> 8 << 5 | size
+}
+
+fn collection(icid: u64, pe: u64) -> u64 {
+    1 << 63 | pe << 16 | icid
+}
+
+fn event(next: u64, lpi: u64, icid: u64) -> u64 {
+    next << 48 | lpi << 16 | icid
+}
+
+/// Zeroed memory with entries at their addresses.
+fn image(entries: &[(u64, u64)]) -> Memory {
+    let mut memory = Memory { bytes: vec![0; LENGTH], start: MEMORY };
+    entries.iter().for_each(|(address, entry)| memory.put(*address, *entry));
+    memory
+}
+
+impl Case<'_> {
+    fn restore(&mut self, entries: &[(u64, u64)], want: i64) {
+        self.lent(Call::Restore, &image(entries).bytes, want);
+    }
+}
+
+fn refusals(c: &mut Case) {
+    let no_restore = |c: &mut Case, length: usize, want: i64| {
+        c.lent(Call::Restore, &vec![0; length], want);
+    };
+    no_restore(c, 0, -14);
+    no_restore(c, LENGTH, -6);
+    c.its_ready();
+    no_restore(c, LENGTH - 1, -14);
+    no_restore(c, LENGTH, -6);
+    c.start(0);
+    no_restore(c, LENGTH, -6);
+    c.place(DEVICES, 1, COLLECTIONS, 1, 0);
+    no_restore(c, LENGTH + 8, -14);
+    no_restore(c, LENGTH, -16);
+    c.stop(0);
+    no_restore(c, LENGTH, 0);
+}
+
+fn empty(c: &mut Case) {
+    c.its_placed(1);
+    c.collection(7, 1, 0);
+    c.device(0, ITT, 5, 0);
+    c.event(0, 1, 8192, 7, 0);
+    c.restore(&[], 0);
+    c.lookup(0, 1, -2);
+    c.no_device(0, -2);
+    c.no_collection(7, -2);
+    // The tables stay placed.
+    c.device(0, ITT, 5, 0);
+}
+
+const SAMPLE: [(u64, u64); 3] =
+    [(DEVICES, 0x8000_0000_0800_0404), (COLLECTIONS, 0x8000_0000_0001_0007), (ITT + 8, 0x0000_0000_2000_0007)];
+
+fn sample(c: &mut Case) {
+    c.its_placed(1);
+    c.restore(&SAMPLE, 0);
+    c.lookup(0, 1, 8192 + 65_536);
+    c.lookup(0, 0, -2);
+    c.lookup(1, 1, -2);
+    c.device(0, ITT, 5, -17);
+    c.no_collection(7, -22);
+    c.event(0, 31, 8192, 7, 0);
+    c.event(0, 32, 8192, 7, -22);
+}
+
+fn replaces(c: &mut Case) {
+    c.its_placed(1);
+    c.collection(9, 2, 0);
+    c.device(0, ITT, 4, 0);
+    c.device(9, ITT + 0x100, 4, 0);
+    c.event(9, 1, 9000, 9, 0);
+    c.restore(&[(COLLECTIONS, collection(7, 4))], -22);
+    c.restore(&[(COLLECTIONS, collection(7, 1)), (DEVICES, device(1, ITT, 4))], -22);
+    c.lookup(9, 1, 9000 + 2 * 65_536);
+    c.restore(&SAMPLE, 0);
+    c.lookup(9, 1, -2);
+    c.no_device(9, -2);
+    c.no_collection(9, -2);
+    c.lookup(0, 1, 8192 + 65_536);
+}
+
+fn collections(c: &mut Case) {
+    c.its_placed(1);
+    let row = |n: u64, icid: u64, pe: u64| (COLLECTIONS + 8 * n, collection(icid, pe));
+    c.restore(&[row(0, 7, 4)], -22);
+    c.restore(&[row(0, 7, 3), row(1, 8, 4)], -22);
+    c.restore(&[row(0, 7, 1), row(1, 8, 1), row(2, 7, 2)], -22);
+    let mut rows: Vec<(u64, u64)> = (0..16).map(|n| row(n, 100 - n, n % 4)).collect();
+    c.restore(&rows, 0);
+    c.no_collection(85, 0);
+    rows.push(row(16, 5, 0));
+    c.restore(&rows, -12);
+    rows[16] = row(16, 5, 4);
+    c.restore(&rows, -22);
+    rows[16] = row(16, 100, 0);
+    c.restore(&rows, -22);
+    // Collections come first: the device's -14 is not met.
+    c.restore(&[row(0, 7, 4), (DEVICES, device(0, 0, 4))], -22);
+    rows[16] = row(16, 5, 0);
+    rows.push((DEVICES, device(0, 0, 4)));
+    c.restore(&rows, -12);
+}
+
+fn collections_unread(c: &mut Case) {
+    c.its_placed(1);
+    c.restore(&[(COLLECTIONS, collection(7, 1) | 0x7ff << 52)], 0);
+    c.no_collection(7, 0);
+    let after_clear = [(COLLECTIONS, collection(7, 1)), (COLLECTIONS + 16, collection(8, 99))];
+    c.restore(&after_clear, 0);
+    c.no_collection(8, -2);
+    c.no_collection(7, 0);
+    c.restore(&[(COLLECTIONS, collection(7, 1) ^ 1 << 63), (COLLECTIONS + 8, collection(8, 1))], 0);
+    c.no_collection(7, -2);
+    c.no_collection(8, -2);
+}
+
+fn collections_full(c: &mut Case) {
+    c.its_placed(1);
+    let rows: Vec<(u64, u64)> = (0..512).map(|n| (COLLECTIONS + 8 * n, collection(n, 0))).collect();
+    c.restore(&rows, -12);
+}
+
+fn device_next(c: &mut Case) {
+    c.its_placed(1);
+    let row = |id: u64, next: u64| (DEVICES + 8 * id, device(next, ITT + 0x100 * (id % 8), 4));
+    c.restore(&[row(0, 0)], 0);
+    c.restore(&[row(0, 1)], -22);
+    c.restore(&[row(0, 1), row(1, 0)], 0);
+    c.restore(&[row(0, 1), row(2, 0)], -22);
+    c.restore(&[row(0, 511), row(511, 0)], 0);
+    c.restore(&[row(0, 512)], -22);
+    c.restore(&[row(511, 0)], 0);
+    c.restore(&[row(511, 1)], -22);
+    c.restore(&[row(510, 1), row(511, 16_383)], -22);
+    c.restore(&[row(0, 16_382)], -22);
+    c.restore(&[row(0, 16_383)], -22);
+    c.restore(&[row(0, 1), row(1, 1), row(2, 1)], -22);
+}
+
+fn placed_wide(c: &mut Case) {
+    c.setup(40, MEMORY, 0x10_0000, 0);
+    c.its_ready();
+    c.place(MEMORY + 0x2_0000, 64, MEMORY, 1, 0);
+}
+
+fn device_cap(c: &mut Case) {
+    placed_wide(c);
+    let row = |id: u64, next: u64| (MEMORY + 0x2_0000 + 8 * id, device(next, ITT + 0x100 * (id % 8), 4));
+    c.restore(&[row(0, 16_382)], -22);
+    c.restore(&[row(0, 16_382), row(16_382, 0)], 0);
+    c.restore(&[row(0, 16_383), row(16_383, 0)], 0);
+    c.restore(&[row(0, 16_383), row(20_001, 0)], 0);
+    c.no_device(20_001, 0);
+    // The landing itself is valid: it follows, and the one after it is not reached.
+    c.restore(&[row(0, 16_383), row(16_383, 0), row(20_001, 0)], 0);
+    c.no_device(20_001, -2);
+    c.restore(&[row(0, 16_383)], -22);
+    c.restore(&[row(0, 16_383), row(16_382, 0)], -22);
+    c.restore(&[row(0, 16_383), row(32_767, 0)], 0);
+    c.restore(&[row(0, 16_383), row(16_391, 16_383), row(32_774, 0)], -22);
+    c.restore(&[row(0, 16_383), row(16_385, 16_382), row(32_767, 0)], 0);
+    c.restore(&[row(0, 16_383), row(16_385, 16_381), row(32_767, 0)], -22);
+    c.restore(&[row(16_384, 16_383), row(32_767, 0)], 0);
+    c.restore(&[row(16_385, 16_383), row(32_767, 0)], -22);
+    c.restore(&[row(3, 16_383), row(20_000, 1), row(20_001, 0)], 0);
+}
+
+fn unread(c: &mut Case) {
+    c.its_placed(1);
+    let row = |id: u64, next: u64| (DEVICES + 8 * id, device(next, ITT + 0x100 * (id % 8), 4));
+    let junk = device(5, 0, 31);
+    // Between 0 and 3 entry 1 is jumped over; after 3 nothing is read.
+    c.restore(&[row(0, 3), (DEVICES + 8, junk), row(3, 0), (DEVICES + 40, junk)], 0);
+    c.no_device(1, -2);
+    c.no_device(5, -2);
+    // Fields of blank entries are not read.
+    c.restore(&[(DEVICES, junk ^ 1 << 63), row(1, 0)], 0);
+    let blank_event = event(77, 0, 9);
+    c.restore(&[row(0, 0), (ITT + 8, blank_event), (COLLECTIONS, collection(7, 1)), (ITT + 16, event(0, 8192, 7))], 0);
+    c.lookup(0, 2, 8192 + 65_536);
+    c.lookup(0, 1, -2);
+    let rows = [row(0, 0), (COLLECTIONS, collection(7, 1)), (ITT, event(2, 8192, 7)), (ITT + 8, event(9, 5, 3))];
+    c.restore(&[&rows[..], &[(ITT + 16, event(0, 8193, 7)), (ITT + 24, event(9, 5, 3))]].concat(), 0);
+    c.lookup(0, 1, -2);
+    c.lookup(0, 2, 8193 + 65_536);
+}
+
+fn first_device(c: &mut Case) {
+    c.its_placed(1);
+    let row = |id: u64, next: u64| (DEVICES + 8 * id, device(next, ITT + 0x100 * (id % 8), 4));
+    // A stale entry below the first device is a device of its own: its next ends the table.
+    c.restore(&[row(2, 0), row(5, 0)], 0);
+    c.no_device(5, -2);
+    c.no_device(2, 0);
+    c.restore(&[row(2, 3), row(5, 0)], 0);
+    c.no_device(5, 0);
+    // Not as for collections: a blank first entry ends nothing.
+    c.restore(&[row(511, 0)], 0);
+    c.no_device(511, 0);
+    // An entry with impossible fields is valid as a first one.
+    c.restore(&[(DEVICES, device(2, ITT, 16)), row(2, 0)], -22);
+}
+
+fn device_order(c: &mut Case) {
+    c.its_placed(1);
+    for size in [16, 17, 31] {
+        c.restore(&[(DEVICES, device(0, ITT, size))], -22);
+    }
+    c.restore(&[(DEVICES, device(0, MEMORY + 0x8_0000, 15))], 0);
+    for itt in [0, MEMORY - 0x100, MEMORY + LENGTH as u64, 0xf_ffff_ffff_ff00] {
+        c.restore(&[(DEVICES, device(0, itt, 4))], -14);
+        c.restore(&[(DEVICES, device(1, itt, 4))], -22);
+        c.restore(&[(DEVICES, device(0, itt, 16))], -22);
+    }
+    c.restore(&[(DEVICES, device(0, MEMORY + 0xf_ff00, 4))], 0);
+    c.restore(&[(DEVICES, device(0, MEMORY + 0xf_ff00, 5))], -14);
+    for itt in [DEVICES, DEVICES + 0xf00, COLLECTIONS, COLLECTIONS + 0xf00] {
+        c.restore(&[(DEVICES, device(0, itt, 0))], -22);
+    }
+    c.restore(&[(DEVICES, device(1, ITT, 5)), (DEVICES + 8, device(0, ITT + 0x100, 4))], -22);
+    c.restore(&[(DEVICES, device(1, ITT + 0x100, 4)), (DEVICES + 8, device(0, ITT, 5))], -22);
+    c.restore(&[(DEVICES, device(1, ITT, 4)), (DEVICES + 8, device(0, ITT + 0x100, 5))], 0);
+    // The old mapping does not count.
+    c.restore(&[(DEVICES, device(0, ITT + 0x100, 4))], 0);
+}
+
+fn device_limit(c: &mut Case) {
+    c.its_placed(1);
+    let row = |id: u64, next: u64| (DEVICES + 8 * id, device(next, ITT + 0x100 * id, 4));
+    let mut rows: Vec<(u64, u64)> = (0..32).map(|id| row(id, (id < 31) as u64)).collect();
+    c.restore(&rows, 0);
+    c.device(40, ITT + 0x100 * 40, 4, -12);
+    rows[31] = row(31, 1);
+    c.restore(&rows, -22);
+    rows.push(row(32, 0));
+    c.restore(&rows, -12);
+    rows[32] = row(32, 1);
+    c.restore(&rows, -22);
+    rows[32] = (DEVICES + 8 * 32, device(0, 0, 16));
+    c.restore(&rows, -22);
+    rows[32] = (DEVICES + 8 * 32, device(0, 0, 4));
+    c.restore(&rows, -12);
+}
+
+fn event_order(c: &mut Case) {
+    c.its_placed(1);
+    let base = [(DEVICES, device(0, ITT, 2)), (COLLECTIONS, collection(7, 1))];
+    let mut check = |events: &[(u64, u64)], want: i64| {
+        let rows: Vec<(u64, u64)> = events.iter().map(|(n, entry)| (ITT + 8 * n, *entry)).collect();
+        c.restore(&[&base[..], &rows].concat(), want);
+    };
+    for lpi in [1, 8191, 65_536, 0xffff_ffff] {
+        check(&[(1, event(0, lpi, 7))], -22);
+    }
+    check(&[(1, event(0, 8192, 7))], 0);
+    check(&[(1, event(0, 65_535, 7))], 0);
+    check(&[(0, event(0, 8192, 8))], -22);
+    check(&[(5, event(3, 8192, 7))], -22);
+    check(&[(5, event(2, 8192, 7)), (7, event(0, 8192, 7))], 0);
+    check(&[(5, event(1, 8192, 7)), (7, event(0, 8192, 7))], -22);
+    check(&[(7, event(1, 8192, 7))], -22);
+    check(&[(0, event(65_535, 8192, 7))], -22);
+    check(&[(0, event(7, 8192, 7)), (7, event(0, 8192, 7))], 0);
+}
+
+fn event_cap(c: &mut Case) {
+    c.its_placed(1);
+    let itt = MEMORY + 0x8_0000;
+    let base = [(DEVICES, device(0, itt, 15)), (COLLECTIONS, collection(7, 1))];
+    let mut check = |events: &[(u64, u64)], want: i64| {
+        let rows: Vec<(u64, u64)> = events.iter().map(|(n, entry)| (itt + 8 * n, *entry)).collect();
+        c.restore(&[&base[..], &rows].concat(), want);
+    };
+    check(&[(0, event(65_535, 8192, 7)), (65_535, event(0, 8193, 7))], 0);
+    check(&[(0, event(65_534, 8192, 7)), (65_534, event(0, 8193, 7))], 0);
+    check(&[(0, event(65_535, 8192, 7)), (65_534, event(0, 8193, 7))], -22);
+    check(&[(0, event(65_535, 8192, 7))], -22);
+    check(&[(1, event(65_535, 8192, 7)), (65_535, event(0, 8193, 7))], -22);
+    check(&[(0, event(16_383, 8192, 7)), (16_384, event(0, 8193, 7))], -22);
+    check(&[(0, event(16_383, 8192, 7)), (16_383, event(0, 8193, 7))], 0);
+}
+
+fn event_before_device(c: &mut Case) {
+    c.its_placed(1);
+    let rows = |lpi: u64, second: u64| {
+        [(DEVICES, device(1, ITT, 4)), (DEVICES + 8, second), (COLLECTIONS, collection(7, 1)), (ITT, event(0, lpi, 7))]
+    };
+    // The second device lies outside memory: met after the first one's events.
+    c.restore(&rows(8192, device(0, 0, 4)), -14);
+    c.restore(&rows(1, device(0, 0, 4)), -22);
+    c.restore(&rows(8192, device(0, ITT + 0x100, 4)), 0);
+}
+
+fn event_limit(c: &mut Case) {
+    c.its_placed(1);
+    let second = ITT + 0x2000;
+    let mut rows =
+        vec![(DEVICES, device(1, ITT, 9)), (DEVICES + 8, device(0, second, 9)), (COLLECTIONS, collection(7, 2))];
+    rows.extend((0..1000).map(|n| (ITT + 8 * n, event((n < 999) as u64, 8192 + n, 7))));
+    rows.extend((0..24).map(|n| (second + 8 * n, event((n < 23) as u64, 20_000 + n, 7))));
+    c.restore(&rows, 0);
+    c.lookup(0, 999, 8192 + 999 + 2 * 65_536);
+    c.lookup(1, 23, 20_023 + 2 * 65_536);
+    c.event(1, 30, 8192, 7, -12);
+    rows.push((second + 8 * 23, event(1, 20_023, 7)));
+    rows.push((second + 8 * 24, event(0, 20_024, 7)));
+    c.restore(&rows, -12);
+    rows.push((second + 8 * 24, event(0, 20_024, 8)));
+    c.restore(&rows, -22);
+    c.lookup(1, 23, 20_023 + 2 * 65_536);
+}
+
+fn wide(c: &mut Case) {
+    c.its_placed(1);
+    for bit in [2, 8, 16, 31, 32, 35] {
+        c.restore(&[(COLLECTIONS, collection(7, 1 | 1 << bit))], -22);
+    }
+    let base = [(DEVICES, device(0, ITT, 4)), (COLLECTIONS, collection(7, 1))];
+    for bit in [16, 17, 24, 31] {
+        c.restore(&[&base[..], &[(ITT, event(0, 8192 | 1 << bit, 7))]].concat(), -22);
+    }
+}
+
+fn round_trip(c: &mut Case) {
+    placed_wide(c);
+    c.collection(9, 3, 0);
+    c.collection(7, 1, 0);
+    for (id, itt) in [(3, ITT), (20_000, ITT + 0x100), (20_001, ITT + 0x200)] {
+        c.device(id, itt, 5, 0);
+    }
+    c.event(3, 31, 9000, 9, 0);
+    c.event(20_000, 0, 8192, 7, 0);
+    c.event(20_000, 5, 8192, 9, 0);
+    let saved = c.lent(Call::Save, &vec![0xff; LENGTH], 0);
+    c.reset(0);
+    c.place(MEMORY + 0x2_0000, 64, MEMORY, 1, 0);
+    c.collection(1, 1, 0);
+    c.device(1, MEMORY + 0x8_0000, 3, 0);
+    c.lent(Call::Restore, &saved, 0);
+    c.lookup(3, 31, 9000 + 3 * 65_536);
+    c.lookup(20_000, 0, 8192 + 65_536);
+    c.lookup(20_000, 5, 8192 + 3 * 65_536);
+    c.no_device(1, -2);
+    c.no_collection(1, -2);
+    c.no_device(20_001, 0);
+}

@@ -1,0 +1,67 @@
+//! The second program: a model of document 01 written from the text, held against the library call by call.
+
+mod call;
+mod directed;
+mod faults;
+mod ffi;
+mod model;
+mod random;
+mod report;
+mod rng;
+mod sides;
+
+use report::{Kind, Report};
+use std::process::exit;
+
+const USAGE: &str = "usage: second [check [CALLS [SEED]]] | directed | hunt | replay SEED | faults FOLDER [LIST..]";
+
+fn number(text: Option<&String>, absent: u64) -> u64 {
+    match text {
+        None => absent,
+        Some(text) => text.parse().unwrap_or_else(|_| usage()),
+    }
+}
+
+fn usage() -> ! {
+    eprintln!("{USAGE}");
+    exit(2)
+}
+
+/// The length of the state is a number that can be lent, and always the same.
+fn check_length(report: &mut Report) {
+    let first = ffi::state_len();
+    if first > 0 && first == ffi::state_len() {
+        report.pass(1);
+        return;
+    }
+    report.fail(Kind::DirectedLibrary, "rk_state_len", &format!("answered {first}"));
+    exit(report.close());
+}
+
+fn all_directed(report: &mut Report) {
+    check_length(report);
+    directed::run(report);
+    random::states(report);
+}
+
+fn main() {
+    let words: Vec<String> = std::env::args().skip(1).collect();
+    let mut report = Report::default();
+    match words.first().map_or("check", String::as_str) {
+        "check" if words.len() <= 3 => {
+            all_directed(&mut report);
+            let calls = number(words.get(1), random::DEFAULT_CALLS);
+            random::run(number(words.get(2), 1), calls, false, &mut report);
+        }
+        // The default budget, but sequences end with the first difference: for planted faults.
+        "hunt" if words.len() == 1 => {
+            all_directed(&mut report);
+            random::run(1, random::DEFAULT_CALLS, true, &mut report);
+        }
+        "directed" if words.len() == 1 => all_directed(&mut report),
+        "replay" if words.len() == 2 => random::replay(number(words.get(1), 0), &mut report),
+        "faults" if words.len() >= 2 => exit(faults::run(&words[1], &words[2..])),
+        _ => usage(),
+    }
+    exit(report.close());
+}

@@ -1,0 +1,105 @@
+//! Section "Table bytes": the entries' fields, and save.
+
+use super::answer::{refuse_if, Answer, Refusal};
+use super::guest::Guest;
+use super::its::{Device, Event, Tables, ENTRY};
+
+/// The largest next of a device entry and of an event entry.
+pub const DEVICE_CAP: u64 = 16_383;
+pub const EVENT_CAP: u64 = 65_535;
+
+/// Puts `value` at bits [high:low].
+fn put(value: u64, high: u32, low: u32) -> u64 {
+    assert!(value as u128 >> (high - low + 1) == 0, "the field is too narrow for {value}");
+    value << low
+}
+
+/// Takes the bits [high:low].
+#[cfg(feature = "restore")]
+pub fn take(entry: u64, high: u32, low: u32) -> u64 {
+    (entry >> low) % (1 << (high - low + 1))
+}
+
+/// Device: V 63, next [62:49], ITT address bits [51:8] in [48:5], bits - 1 in [4:0].
+fn device_entry(device: &Device, next: u64) -> u64 {
+    put(1, 63, 63) | put(next, 62, 49) | put(device.itt >> 8, 48, 5) | put(device.bits - 1, 4, 0)
+}
+
+/// Collection: V 63, zero [62:52], pe [51:16], ICID [15:0].
+fn collection_entry(icid: u64, pe: u64) -> u64 {
+    put(1, 63, 63) | put(pe, 51, 16) | put(icid, 15, 0)
+}
+
+/// Event: next [63:48], LPI [47:16], ICID [15:0].
+fn event_entry(event: &Event, next: u64) -> u64 {
+    put(next, 63, 48) | put(event.lpi, 47, 16) | put(event.icid, 15, 0)
+}
+
+/// Next is 0 at the last ID, else the distance to the following ID, at most the cap.
+fn next_of(ids: &[u64], place: usize, cap: u64) -> u64 {
+    match ids.get(place + 1) {
+        Some(following) => (following - ids[place]).min(cap),
+        None => 0,
+    }
+}
+
+/// A table as it must come out: each entry that is named, and zeros.
+fn table_bytes(entries: u64, named: &[(u64, u64)]) -> Vec<u8> {
+    let mut bytes = vec![0; (entries * ENTRY) as usize];
+    for (index, entry) in named {
+        let at = (index * ENTRY) as usize;
+        bytes[at..at + 8].copy_from_slice(&entry.to_le_bytes());
+    }
+    bytes
+}
+
+impl Guest {
+    /// Save and restore: memory's length -14, then not ready -6, then running -16.
+    pub fn check_tables(&self, length: usize) -> Result<Tables, Refusal> {
+        refuse_if(length as u128 != self.memory.end - self.memory.start, Refusal::Outside)?;
+        let tables = self.placed()?;
+        refuse_if(self.running, Refusal::Busy)?;
+        Ok(tables)
+    }
+
+    fn saved_devices(&self) -> Vec<(u64, u64)> {
+        let devices = &self.its.mapping.devices;
+        let ids: Vec<u64> = devices.keys().copied().collect();
+        let entry = |(n, id): (usize, &u64)| (*id, device_entry(&devices[id], next_of(&ids, n, DEVICE_CAP)));
+        ids.iter().enumerate().map(entry).collect()
+    }
+
+    /// Collections in rising ICID from entry 0.
+    fn saved_collections(&self) -> Vec<(u64, u64)> {
+        let rows = self.its.mapping.collections.iter();
+        rows.enumerate().map(|(n, (icid, pe))| (n as u64, collection_entry(*icid, *pe))).collect()
+    }
+
+    fn saved_events(&self, id: u64) -> Vec<(u64, u64)> {
+        let events = &self.its.mapping.events;
+        let ids: Vec<u64> = events.keys().filter(|key| key.0 == id).map(|key| key.1).collect();
+        let entry =
+            |(n, number): (usize, &u64)| (*number, event_entry(&events[&(id, *number)], next_of(&ids, n, EVENT_CAP)));
+        ids.iter().enumerate().map(entry).collect()
+    }
+
+    /// Byte i of the lent memory is address start + i.
+    fn write(&self, memory: &mut [u8], address: u64, bytes: &[u8]) {
+        let at = (address as u128 - self.memory.start) as usize;
+        memory[at..at + bytes.len()].copy_from_slice(bytes);
+    }
+
+    /// Writes the two tables and each mapped device's ITT whole, and no other byte. No further refusal.
+    pub fn save(&mut self, memory: &mut [u8]) -> Answer {
+        let tables = self.check_tables(memory.len())?;
+        let devices = table_bytes(tables.devices.entries(), &self.saved_devices());
+        self.write(memory, tables.devices.start, &devices);
+        let collections = table_bytes(tables.collections.entries(), &self.saved_collections());
+        self.write(memory, tables.collections.start, &collections);
+        for (id, device) in &self.its.mapping.devices {
+            let events = table_bytes(1 << device.bits, &self.saved_events(*id));
+            self.write(memory, device.itt, &events);
+        }
+        Ok(0)
+    }
+}

@@ -1,0 +1,120 @@
+//! Seeded sequences: each is one guest's life, made on the library and on the model side by side.
+
+mod attributes;
+mod calls;
+mod damage;
+#[cfg(feature = "its")]
+mod its;
+mod lengths;
+mod life;
+#[cfg(feature = "restore")]
+mod memory;
+mod observe;
+mod pair;
+mod pick;
+mod plan;
+
+use crate::report::{Kind, Report};
+use pair::Pair;
+
+/// The default number of calls in sequences.
+pub const DEFAULT_CALLS: u64 = 250_000;
+
+/// How far the sequences got: told at the end, so that it is seen if they stop going deep.
+#[derive(Default)]
+struct Depth {
+    sequences: u64,
+    calls: u64,
+    initialised: u64,
+    full_vcpus: u64,
+    full_regions: u64,
+    #[cfg(feature = "its")]
+    tables: [u64; 3],
+    #[cfg(feature = "its")]
+    full_mappings: [u64; 3],
+}
+
+impl Depth {
+    fn count(&mut self, pair: &Pair) {
+        self.sequences += 1;
+        self.calls += pair.step;
+        // A difference at the very first set-up leaves no guest.
+        let Some(guest) = &pair.model.guest else { return };
+        self.initialised += guest.initialised as u64;
+        self.full_vcpus += (guest.vcpus.len() == 64) as u64;
+        self.full_regions += (guest.frames.regions.len() == 32) as u64;
+        #[cfg(feature = "its")]
+        self.count_its(pair);
+    }
+
+    #[cfg(feature = "its")]
+    fn count_its(&mut self, pair: &Pair) {
+        for n in 0..3 {
+            self.tables[n] += pair.tables[n];
+            self.full_mappings[n] += pair.full[n] as u64;
+        }
+    }
+
+    fn tell(&self, seed: u64) {
+        println!(
+            "random: {} calls in {} sequences from seed {seed}; past INIT {}, with 64 VCPUs {}, with 32 regions {}",
+            self.calls, self.sequences, self.initialised, self.full_vcpus, self.full_regions
+        );
+        #[cfg(feature = "its")]
+        println!(
+            "random: saves {}, restores accepted {} and refused {}; full collections {}, devices {}, events {}",
+            self.tables[0],
+            self.tables[1],
+            self.tables[2],
+            self.full_mappings[0],
+            self.full_mappings[1],
+            self.full_mappings[2]
+        );
+    }
+}
+
+/// Runs sequences from `seed` on until they have made `calls` calls; a hunt ends with the first difference.
+pub fn run(seed: u64, calls: u64, hunt: bool, report: &mut Report) {
+    let mut depth = Depth::default();
+    while depth.calls < calls && !(hunt && report.differs(Kind::Random)) {
+        let number = seed + depth.sequences;
+        depth.count(&one(number, false, report));
+    }
+    depth.tell(seed);
+}
+
+/// Runs one sequence again, telling of each step.
+pub fn replay(seed: u64, report: &mut Report) {
+    one(seed, true, report);
+}
+
+/// The sequence of one seed.
+fn one(seed: u64, tell: bool, report: &mut Report) -> Pair {
+    let mut pair = Pair::new(seed, tell);
+    life::live(&mut pair);
+    match &pair.difference {
+        None => report.pass(pair.step),
+        Some(note) => {
+            report.pass(pair.step.saturating_sub(1));
+            let title = format!("random seed {seed} step {} (second replay {seed})", pair.step);
+            report.fail(Kind::Random, &title, note);
+        }
+    }
+    pair
+}
+
+/// Directed cases about the state's bytes, for the library alone: the model has no bytes.
+pub fn states(report: &mut Report) {
+    let mut pair = one(0, false, report);
+    if !pair.stands() {
+        return;
+    }
+    let mut note = |title: &str, pair: &mut Pair| match pair.difference.take() {
+        None => report.pass(1),
+        Some(note) => report.fail(Kind::DirectedLibrary, &format!("directed library: {title}"), &note),
+    };
+    lengths::every_length(&mut pair);
+    note("a state of the wrong length is -14, before any other check", &mut pair);
+    damage::plain_junk(&mut pair);
+    note("bytes that break a rule are -22, before any other check; set-up tests the length only", &mut pair);
+}

@@ -1,0 +1,159 @@
+//! The library and the model side by side. A sequence stops at the first difference.
+
+use crate::call::{Call, ITS_STEPS};
+use crate::model::{Guest, Model};
+use crate::rng::Rng;
+use crate::sides::{Library, Side};
+
+pub struct Pair {
+    pub rng: Rng,
+    pub model: Model,
+    pub library: Library,
+    /// Calls compared so far.
+    pub step: u64,
+    pub difference: Option<String>,
+    /// INTIDs and VCPUs that this sequence comes back to, so that calls meet.
+    pub intids: Vec<u64>,
+    pub vcpus: Vec<u64>,
+    /// The guest's memory, as the last save left it.
+    #[cfg(feature = "its")]
+    pub memory: Vec<u8>,
+    /// Accepted saves and restores, and refused restores that were ready.
+    #[cfg(feature = "its")]
+    pub tables: [u64; 3],
+    /// Whether collections, devices and events were at their limits at some step.
+    #[cfg(feature = "its")]
+    pub full: [bool; 3],
+    tell: bool,
+}
+
+impl Pair {
+    pub fn new(seed: u64, tell: bool) -> Pair {
+        let mut rng = Rng::new(seed);
+        let mut state = vec![0; Library::len()];
+        // Set-up must not care what the bytes held before.
+        match rng.below(4) {
+            0 => {}
+            1 => state.fill(0xff),
+            _ => rng.fill(&mut state),
+        }
+        let library = Library::new(&state);
+        Pair {
+            rng,
+            model: Model::default(),
+            library,
+            step: 0,
+            difference: None,
+            intids: Vec::new(),
+            vcpus: Vec::new(),
+            #[cfg(feature = "its")]
+            memory: Vec::new(),
+            #[cfg(feature = "its")]
+            tables: [0; 3],
+            #[cfg(feature = "its")]
+            full: [false; 3],
+            tell,
+        }
+    }
+
+    pub fn guest(&self) -> &Guest {
+        self.model.guest()
+    }
+
+    pub fn stands(&self) -> bool {
+        self.difference.is_none()
+    }
+
+    /// Makes the call on both sides and compares the answers and the lent bytes. Hands back both where they agree.
+    pub fn make(&mut self, call: Call, lent: Vec<u8>) -> Option<(i64, Vec<u8>)> {
+        if !self.stands() || (call.is_its_step(&lent) && !ITS_STEPS) {
+            return None;
+        }
+        self.step += 1;
+        let lent_before = short(&lent);
+        let result = compare(&mut self.model, &mut self.library, &call, lent);
+        if self.tell {
+            println!("{:5} {call:x?} lent {lent_before} -> {}", self.step, told(&result));
+        }
+        #[cfg(feature = "its")]
+        self.see_limits();
+        match result {
+            Ok(agreed) => Some(agreed),
+            Err(note) => {
+                self.differ(&note);
+                None
+            }
+        }
+    }
+
+    #[cfg(feature = "its")]
+    fn see_limits(&mut self) {
+        let Some(mapping) = self.model.guest.as_ref().map(|guest| &guest.its.mapping) else { return };
+        self.full[0] |= mapping.collections.len() == 16;
+        self.full[1] |= mapping.devices.len() == 32;
+        self.full[2] |= mapping.events.len() == 1024;
+    }
+
+    pub fn differ(&mut self, note: &str) {
+        if self.stands() {
+            self.difference = Some(note.into());
+        }
+    }
+
+    /// Soundness probe on a copy of the live state: start answers 0 or -6 on sound bytes.
+    pub fn probe(&mut self) {
+        let answer = probe(self.library.state.content());
+        if self.stands() && answer != 0 && answer != -6 {
+            self.differ(&format!("the live state is not sound: start on a copy answers {answer}"));
+        }
+    }
+}
+
+/// What start answers on a copy of these bytes.
+pub fn probe(state: &[u8]) -> i64 {
+    let mut copy = Library::new(state);
+    copy.call(&Call::Start, &mut [], &mut Vec::new())
+}
+
+/// One call on both; the answer and the lent bytes after it, or what differs.
+pub fn compare(model: &mut Model, library: &mut Library, call: &Call, lent: Vec<u8>) -> Result<(i64, Vec<u8>), String> {
+    let (mut ours, mut theirs) = (lent.clone(), lent);
+    let mut complaints = Vec::new();
+    let want = Side::call(model, call, &mut ours, &mut complaints);
+    if let Some(complaint) = complaints.first() {
+        return Err(format!("{call:x?}: the model: {complaint}"));
+    }
+    let answer = library.call(call, &mut theirs, &mut complaints);
+    if answer != want {
+        return Err(format!("{call:x?} lent {}: library {answer}, model {want}", short(&theirs)));
+    }
+    if let Some(complaint) = complaints.first() {
+        return Err(format!("{call:x?}: {complaint}"));
+    }
+    if ours != theirs {
+        return Err(format!("{call:x?}: lent bytes after it: {}", first_difference(&theirs, &ours)));
+    }
+    Ok((answer, theirs))
+}
+
+fn told(result: &Result<(i64, Vec<u8>), String>) -> String {
+    match result {
+        Ok((answer, lent)) => format!("{answer}, lent {}", short(lent)),
+        Err(note) => note.clone(),
+    }
+}
+
+fn short(bytes: &[u8]) -> String {
+    if bytes.len() <= 16 {
+        format!("{bytes:02x?}")
+    } else {
+        format!("{} bytes", bytes.len())
+    }
+}
+
+fn first_difference(library: &[u8], model: &[u8]) -> String {
+    let at = library.iter().zip(model).position(|(a, b)| a != b).unwrap_or(0);
+    let start = at & !7;
+    let end = (start + 8).min(library.len());
+    format!("at {start:#x} library {:02x?}, model {:02x?}", &library[start..end], &model[start..end])
+}

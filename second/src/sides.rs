@@ -1,0 +1,106 @@
+//! The two sides of the comparison behind one face: the library with its real bytes, and the model.
+//! Both watch the promises that hold around any call: a refusal changes nothing, a reader leaves the state.
+
+use crate::call::{Call, REFUSALS};
+use crate::ffi;
+use crate::model::Model;
+
+pub trait Side {
+    /// Makes the call; complaints about broken promises are added to the list.
+    fn call(&mut self, call: &Call, lent: &mut [u8], complaints: &mut Vec<String>) -> i64;
+}
+
+/// Bytes with a margin on both sides, so that a write next to them is seen.
+#[derive(Clone)]
+pub struct Guarded {
+    bytes: Vec<u8>,
+}
+
+const MARGIN: usize = 64;
+const MARGIN_BYTE: u8 = 0xa5;
+
+impl Guarded {
+    pub fn new(content: &[u8]) -> Guarded {
+        let mut bytes = vec![MARGIN_BYTE; content.len() + 2 * MARGIN];
+        bytes[MARGIN..MARGIN + content.len()].copy_from_slice(content);
+        Guarded { bytes }
+    }
+
+    pub fn content(&self) -> &[u8] {
+        &self.bytes[MARGIN..self.bytes.len() - MARGIN]
+    }
+
+    pub fn content_mut(&mut self) -> &mut [u8] {
+        let end = self.bytes.len() - MARGIN;
+        &mut self.bytes[MARGIN..end]
+    }
+
+    fn margins_stand(&self) -> bool {
+        let end = self.bytes.len() - MARGIN;
+        self.bytes[..MARGIN].iter().chain(&self.bytes[end..]).all(|byte| *byte == MARGIN_BYTE)
+    }
+}
+
+/// The library on one lent state.
+#[derive(Clone)]
+pub struct Library {
+    pub state: Guarded,
+}
+
+impl Library {
+    pub fn new(state: &[u8]) -> Library {
+        Library { state: Guarded::new(state) }
+    }
+
+    pub fn len() -> usize {
+        ffi::state_len().max(0) as usize
+    }
+}
+
+/// What must hold around a call whatever the state was: a listed answer, and nothing changed where nothing may be.
+fn around(call: &Call, answer: i64, same_state: bool, same_lent: bool, complaints: &mut Vec<String>) {
+    if answer < 0 && !REFUSALS.contains(&answer) {
+        complaints.push(format!("answer {answer} is no listed number"));
+    }
+    if answer > 0 && !call.asks_number() {
+        complaints.push(format!("answer {answer} where success is 0"));
+    }
+    if answer < 0 && !same_state {
+        complaints.push("the refusal changed the state".into());
+    }
+    if answer < 0 && !same_lent {
+        complaints.push("the refusal changed the lent bytes".into());
+    }
+    if call.keeps_state() && !same_state {
+        complaints.push("a call that only reads changed the state".into());
+    }
+    if !call.writes_lent() && !same_lent {
+        complaints.push("a call that only reads the lent bytes changed them".into());
+    }
+}
+
+impl Side for Library {
+    fn call(&mut self, call: &Call, lent: &mut [u8], complaints: &mut Vec<String>) -> i64 {
+        let state_before = self.state.content().to_vec();
+        let mut value = Guarded::new(lent);
+        let answer = ffi::call(call, self.state.content_mut(), value.content_mut());
+        let same_state = self.state.content() == state_before;
+        let same_lent = value.content() == lent;
+        around(call, answer, same_state, same_lent, complaints);
+        if !self.state.margins_stand() || !value.margins_stand() {
+            complaints.push("bytes next to the lent ones were written".into());
+        }
+        lent.copy_from_slice(value.content());
+        answer
+    }
+}
+
+impl Side for Model {
+    fn call(&mut self, call: &Call, lent: &mut [u8], complaints: &mut Vec<String>) -> i64 {
+        let state_before = self.clone();
+        let lent_before = lent.to_vec();
+        let answer = Model::call(self, call, lent);
+        around(call, answer, *self == state_before, *lent == *lent_before, complaints);
+        answer
+    }
+}
