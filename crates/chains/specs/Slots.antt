@@ -1,0 +1,71 @@
+-- A table of slots that may be blank, with a distance in each: the scan, where a slot leads, the path along the slots, and the relation
+-- that says when a list of IDs is chained. One theory for device tables and for ITTs.
+use Prim.Native.Nat.{ℕ, zero, suc, _+_, _-_, _≤_, _<_, min}
+use mathlib.Core.Path.{_≡_}
+use mathlib.Core.Bool.{Bool, true, false}
+use mathlib.Core.List.{List, [], _∷_}
+use lib.Dec.{ltb, leb, eqb}
+use Rattle.lists.specs.Rows.{choose}
+use Rattle.chains.specs.declared.Next.{Next}
+use Rattle.chains.specs.declared.Next.the-variants.{Last, At, Bad}
+
+pub record Slots : Type 0 where
+  pub size : ℕ
+  pub cap : ℕ
+  pub valid : ℕ → Bool
+  pub next : ℕ → ℕ
+
+-- the first index from i on, within `left` of it, at which the test holds; or i + left
+unfoldable pub scan : (ℕ → Bool) → ℕ → ℕ → ℕ
+scan valid zero i = i
+scan valid (suc left) i = let r = scan valid left (suc i) in choose (valid i) i r
+
+unfoldable pub firstFrom : Slots → ℕ → ℕ
+firstFrom T i = scan (T .valid) (T .size - i) i
+
+-- where the slot at i leads
+unfoldable pub following : Slots → ℕ → Next
+following T i =
+    let d = T .next i in
+    let k = firstFrom T (i + d) in
+    choose (eqb d 0) Last
+    (choose (leb (T .size) (i + d)) Bad
+    (choose (ltb d (T .cap))
+    (choose (T .valid (i + d)) (At (i + d)) Bad)
+    (choose (ltb k (T .size)) (At k) Bad)))
+
+-- the slots along the way: the last one, one whose next is a fault, or one and those after it
+pub data Path : Type 0 where
+  final broken : ℕ → Path
+  onto : ℕ → Path → Path
+
+abbrev pub onward : ℕ → (ℕ → Path) → Next → Path
+onward i rest Last = final i
+onward i rest Bad = broken i
+onward i rest (At j) = onto i (rest j)
+
+-- `fuel` is enough where the slots after i are no more
+unfoldable pub path : Slots → ℕ → ℕ → Path
+path T zero i = broken i
+path T (suc fuel) i = onward i (path T fuel) (following T i)
+
+-- ---- the relation
+
+abbrev pub Blank : Slots → ℕ → ℕ → Type 0
+Blank T a b = (k : ℕ) → a ≤ k → k < b → T .valid k ≡ false
+
+-- from one ID to the following one
+pub record Link (T : Slots) (i j : ℕ) : Type 0 where
+  pub rises : i < j
+  pub inside : j < T .size
+  pub valid : T .valid j ≡ true
+  pub next : T .next i ≡ min (j - i) (T .cap)
+  pub gap : T .cap < j - i → Blank T (i + T .cap) j
+
+abbrev pub Links : Slots → ℕ → List ℕ → Type 0
+Links T i [] = T .next i ≡ 0
+Links T i (j ∷ js) = Link T i j × Links T j js
+
+abbrev pub whole : ℕ → List ℕ → Path
+whole i [] = final i
+whole i (j ∷ js) = onto i (whole j js)

@@ -1,0 +1,13 @@
+pub mod Member
+pub mod Rise
+pub mod Walks
+pub mod Places
+pub mod Parts
+pub mod Collects
+pub mod Events
+pub mod Devices
+pub mod Sound
+pub mod Joined
+pub mod Complete
+pub mod Faults
+pub mod Exact

@@ -1,0 +1,1 @@
+// Laws: a restore reads exactly what the bytes describe.

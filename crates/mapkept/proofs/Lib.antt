@@ -1,0 +1,9 @@
+pub mod Edits
+pub mod Rising
+pub mod Sound
+pub mod Devices
+pub mod Collections
+pub mod Events
+pub mod Placing
+pub mod Words
+pub mod Answers

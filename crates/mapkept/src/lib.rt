@@ -1,0 +1,1 @@
+// Laws: the mapping commands keep the rules.

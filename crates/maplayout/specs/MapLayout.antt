@@ -1,0 +1,66 @@
+-- The mapping's part of the state as bytes, little endian. From 2,352: its three counts of 8 bytes, of devices, collections and events;
+-- from 2,376: devices, three words of 8 bytes each, room for 32; from 3,144: collections, two words of 2 bytes each, room for 16; from
+-- 3,208: events, four words of 2 bytes each, room for 1,024. What lies past a table's last row is never read, and stays as it is.
+use Prim.Native.Nat.{ℕ}
+use mathlib.Core.Bool.{Bool, _&&_}
+use mathlib.Core.List.{List, [], _∷_}
+use lib.ListN.{length, drop}
+use lib.Dec.{leb}
+use Rattle.words.specs.Words.{leAt, bytesOf, rowsOf, bytesAll, putAt}
+use Rattle.mapping.specs.declared.Device.{Device}
+use Rattle.mapping.specs.declared.Collection.{Collection}
+use Rattle.mapping.specs.declared.Event.{Event}
+use Rattle.mapping.specs.Mapped.{Mapped}
+
+-- the words of each row, the row that such words stand for, and its bytes
+abbrev pub deviceWords : Device → List ℕ
+deviceWords d = d .id ∷ d .itt ∷ d .bits ∷ []
+
+unfoldable pub deviceOf : List ℕ → Device
+deviceOf s = record { id = leAt s 0 8; itt = leAt s 8 8; bits = leAt s 16 8 }
+
+unfoldable pub deviceBytes : Device → List ℕ
+deviceBytes d = bytesAll (bytesOf 8) (deviceWords d)
+
+abbrev pub collectionWords : Collection → List ℕ
+collectionWords c = c .icid ∷ c .pe ∷ []
+
+unfoldable pub collectionOf : List ℕ → Collection
+collectionOf s = record { icid = leAt s 0 2; pe = leAt s 2 2 }
+
+unfoldable pub collectionBytes : Collection → List ℕ
+collectionBytes c = bytesAll (bytesOf 2) (collectionWords c)
+
+abbrev pub eventWords : Event → List ℕ
+eventWords e = e .device ∷ e .event ∷ e .lpi ∷ e .icid ∷ []
+
+unfoldable pub eventOf : List ℕ → Event
+eventOf s = record { device = leAt s 0 2; event = leAt s 2 2; lpi = leAt s 4 2; icid = leAt s 6 2 }
+
+unfoldable pub eventBytes : Event → List ℕ
+eventBytes e = bytesAll (bytesOf 2) (eventWords e)
+
+-- the mapping that bytes stand for
+unfoldable pub decodeMap : List ℕ → Mapped
+decodeMap s = record {
+  collections = rowsOf collectionOf 4 (leAt s 2360 8) (drop 3144 s);
+  devices = rowsOf deviceOf 24 (leAt s 2352 8) (drop 2376 s);
+  events = rowsOf eventOf 8 (leAt s 2368 8) (drop 3208 s);
+}
+
+-- the three counts
+abbrev pub countWords : Mapped → List ℕ
+countWords k = length (k .devices) ∷ length (k .collections) ∷ length (k .events) ∷ []
+
+unfoldable pub countBytes : Mapped → List ℕ
+countBytes k = bytesAll (bytesOf 8) (countWords k)
+
+-- the bytes with a mapping stored in them
+unfoldable pub storedMap : Mapped → List ℕ → List ℕ
+storedMap k s =
+    putAt (putAt (putAt (putAt s 3208 (bytesAll eventBytes (k .events))) 3144 (bytesAll collectionBytes (k .collections)))
+    2376 (bytesAll deviceBytes (k .devices))) 2352 (countBytes k)
+
+-- the numbers of rows are within the room for them
+unfoldable pub mapCountsOk : List ℕ → Bool
+mapCountsOk s = leb (leAt s 2352 8) 32 && (leb (leAt s 2360 8) 16 && leb (leAt s 2368 8) 1024)

@@ -1,0 +1,4 @@
+pub mod Table
+pub mod Replace
+pub mod Counts
+pub mod Sized

@@ -1,0 +1,183 @@
+-- The mapping commands, on the rows. Each is tried once the ITS is initialised and its tables are placed.
+use Prim.Native.Nat.{ℕ, suc, _+_, _*_, _%_, _^_}
+use mathlib.Core.Bool.{Bool, true, false, _&&_, _||_, not}
+use mathlib.Core.List.{List, [], _∷_, map}
+use lib.ListN.{length, getD, set}
+use lib.Dec.{ltb, leb, eqb}
+use Rattle.lists.specs.Rows.{choose, findIx}
+use Rattle.areas.specs.declared.Area.{Area}
+use Rattle.areas.specs.Area.{inside, strikes, overlaps}
+use Rattle.guest.specs.declared.Reading.{Reading}
+use Rattle.guest.specs.declared.Table.{Table}
+use Rattle.guest.specs.declared.Tables.{Tables}
+use Rattle.guest.specs.Machine.{Machine}
+use Rattle.rules.specs.Rules.{tableArea, memoryArea}
+use Rattle.mapping.specs.declared.Device.{Device}
+use Rattle.mapping.specs.declared.Collection.{Collection}
+use Rattle.mapping.specs.declared.Event.{Event}
+use Rattle.mapping.specs.Mapped.{Mapped, MapResult, refuse, accept, empty, deviceKey, collectionKey, eventKey, findKey, placeOf, insertedAt, removedAt, kept, isEvent, findEvent, ittArea, noDevice, noCollection, noEvent}
+
+-- the entries of the device table: 8 bytes each
+abbrev pub deviceEntries : Machine → ℕ
+deviceEntries m = 512 * m .tables .devices .pages
+
+-- the tables in memory, in the order device table, collection table, ITTs by device ID
+unfoldable pub tableAreas : Machine → List Device → List Area
+tableAreas m ds = tableArea (m .tables .devices) ∷ tableArea (m .tables .collections) ∷ map ittArea ds
+
+abbrev pub indexOfDevice : ℕ → Mapped → ℕ
+indexOfDevice id k = findKey deviceKey id (k .devices)
+
+abbrev pub hasDevice : ℕ → Mapped → Bool
+hasDevice id k = ltb (indexOfDevice id k) (length (k .devices))
+
+abbrev pub deviceOf : ℕ → Mapped → Device
+deviceOf id k = getD (k .devices) (indexOfDevice id k) noDevice
+
+abbrev pub indexOfCollection : ℕ → Mapped → ℕ
+indexOfCollection icid k = findKey collectionKey icid (k .collections)
+
+abbrev pub hasCollection : ℕ → Mapped → Bool
+hasCollection icid k = ltb (indexOfCollection icid k) (length (k .collections))
+
+abbrev pub indexOfEvent : ℕ → ℕ → Mapped → ℕ
+indexOfEvent device event k = findEvent device event (k .events)
+
+abbrev pub hasEvent : ℕ → ℕ → Mapped → Bool
+hasEvent device event k = ltb (indexOfEvent device event k) (length (k .events))
+
+abbrev pub withDevices : List Device → Mapped → Mapped
+withDevices ds k = record { collections = k .collections; devices = ds; events = k .events }
+
+abbrev pub withCollections : List Collection → Mapped → Mapped
+withCollections cs k = record { collections = cs; devices = k .devices; events = k .events }
+
+abbrev pub withEvents : List Event → Mapped → Mapped
+withEvents es k = record { collections = k .collections; devices = k .devices; events = es }
+
+-- "Device(id, ITT, bits): id not below the table's entries -22; bits not 1 to 16 -22; ITT not a multiple of 256 -22; mapped -17;
+-- 33rd -12; the 8 × 2^bits bytes outside memory -14; overlap with another table -22."
+unfoldable pub deviceFault : Device → Machine → Mapped → ℕ
+deviceFault d m k =
+    choose (ltb (d .id) (deviceEntries m))
+    (choose (leb 1 (d .bits) && leb (d .bits) 16)
+    (choose (eqb (d .itt % 256) 0)
+    (choose (hasDevice (d .id) k) 17
+    (choose (leb 32 (length (k .devices))) 12
+    (choose (inside (memoryArea (m .memory)) (ittArea d))
+    (choose (strikes (tableAreas m (k .devices)) (ittArea d)) 22 0)
+    14)))
+    22)
+    22)
+    22
+
+unfoldable pub mapDevice : ℕ → ℕ → ℕ → Machine → Mapped → MapResult
+mapDevice id itt bits m k =
+    let d : Device = record { id = id; itt = itt; bits = bits } in
+    let e = deviceFault d m k in
+    choose (eqb e 0)
+    (accept (withDevices (insertedAt (placeOf deviceKey id (k .devices)) d (k .devices)) k))
+    (refuse k e)
+
+-- "Removal: not mapped -2; its events go too."
+abbrev pub ofOther : ℕ → Event → Bool
+ofOther id e = not (eqb (e .device) id)
+
+unfoldable pub unmapDevice : ℕ → Mapped → MapResult
+unmapDevice id k =
+    choose (hasDevice id k)
+    (accept (record {
+      collections = k .collections;
+      devices = removedAt (indexOfDevice id k) (k .devices);
+      events = kept (ofOther id) (k .events);
+    }))
+    (refuse k 2)
+
+-- "Collection(icid below 65,536, pe): icid larger or pe not below the VCPUs -22; 17th -12; one that stands gets the new pe."
+unfoldable pub mapCollection : ℕ → ℕ → Machine → Mapped → MapResult
+mapCollection icid pe m k =
+    let c : Collection = record { icid = icid; pe = pe } in
+    choose (ltb icid 65536 && ltb pe (length (m .vcpus)))
+    (choose (hasCollection icid k)
+    (accept (withCollections (set (k .collections) (indexOfCollection icid k) c) k))
+    (choose (leb 16 (length (k .collections))) (refuse k 12)
+    (accept (withCollections (insertedAt (placeOf collectionKey icid (k .collections)) c (k .collections)) k))))
+    (refuse k 22)
+
+-- "Removal: not there -2; named by an event -22."
+abbrev pub names : ℕ → Event → Bool
+names icid e = eqb (e .icid) icid
+
+abbrev pub isNamed : ℕ → Mapped → Bool
+isNamed icid k = ltb (findIx (names icid) (k .events)) (length (k .events))
+
+unfoldable pub unmapCollection : ℕ → Mapped → MapResult
+unmapCollection icid k =
+    choose (hasCollection icid k)
+    (choose (isNamed icid k) (refuse k 22)
+    (accept (withCollections (removedAt (indexOfCollection icid k) (k .collections)) k)))
+    (refuse k 2)
+
+-- "Event(device, event, lpi, icid): no device -2; event not below 2^bits -22; lpi not 8,192 to 65,535 -22; no collection -2; mapped
+-- -17; 1,025th -12."
+unfoldable pub eventFault : ℕ → ℕ → ℕ → ℕ → Mapped → ℕ
+eventFault device event lpi icid k =
+    choose (hasDevice device k)
+    (choose (ltb event (2 ^ deviceOf device k .bits))
+    (choose (leb 8192 lpi && leb lpi 65535)
+    (choose (hasCollection icid k)
+    (choose (hasEvent device event k) 17
+    (choose (leb 1024 (length (k .events))) 12 0))
+    2)
+    22)
+    22)
+    2
+
+unfoldable pub mapEvent : ℕ → ℕ → ℕ → ℕ → Mapped → MapResult
+mapEvent device event lpi icid k =
+    let x : Event = record { device = device; event = event; lpi = lpi; icid = icid } in
+    let e = eventFault device event lpi icid k in
+    choose (eqb e 0)
+    (accept (withEvents (insertedAt (placeOf eventKey (eventKey x) (k .events)) x (k .events)) k))
+    (refuse k e)
+
+-- "Discard, move and lookup (lpi + 65,536 × pe): -2 where anything named is missing."
+unfoldable pub discard : ℕ → ℕ → Mapped → MapResult
+discard device event k =
+    choose (hasEvent device event k)
+    (accept (withEvents (removedAt (indexOfEvent device event k) (k .events)) k))
+    (refuse k 2)
+
+abbrev pub movedTo : ℕ → Event → Event
+movedTo icid e = record { device = e .device; event = e .event; lpi = e .lpi; icid = icid }
+
+unfoldable pub move : ℕ → ℕ → ℕ → Mapped → MapResult
+move device event icid k =
+    choose (hasEvent device event k && hasCollection icid k)
+    (accept (withEvents (set (k .events) (indexOfEvent device event k) (movedTo icid (getD (k .events) (indexOfEvent device event k) noEvent))) k))
+    (refuse k 2)
+
+unfoldable pub lookup : ℕ → ℕ → Mapped → Reading
+lookup device event k =
+    let e = getD (k .events) (indexOfEvent device event k) noEvent in
+    choose (hasEvent device event k)
+    (record { errno = 0; number = e .lpi + 65536 * getD (k .collections) (indexOfCollection (e .icid) k) noCollection .pe })
+    (record { errno = 2; number = 0 })
+
+-- "Placing the device and the collection table (start and 4 KiB pages each): mapping not empty -16; start not a multiple of 4,096 or
+-- pages not 1 to 128 -22; outside memory -14; the two overlap -22." Judged by fault over both tables.
+abbrev pub isEmpty : Mapped → Bool
+isEmpty k = eqb (length (k .collections)) 0 && (eqb (length (k .devices)) 0 && eqb (length (k .events)) 0)
+
+unfoldable pub wellFormed : Table → Bool
+wellFormed t = eqb (t .start % 4096) 0 && (leb 1 (t .pages) && leb (t .pages) 128)
+
+unfoldable pub placeFault : Table → Table → Machine → Mapped → ℕ
+placeFault d c m k =
+    choose (isEmpty k)
+    (choose (wellFormed d && wellFormed c)
+    (choose (inside (memoryArea (m .memory)) (tableArea d) && inside (memoryArea (m .memory)) (tableArea c))
+    (choose (overlaps (tableArea d) (tableArea c)) 22 0)
+    14)
+    22)
+    16

@@ -1,0 +1,4 @@
+pub mod Mapped
+pub mod Commands
+pub mod MapRules
+pub mod MapWords

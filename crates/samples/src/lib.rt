@@ -1,0 +1,1 @@
+// The sample table of document 01: definitions and laws, no code.

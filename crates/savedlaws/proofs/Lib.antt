@@ -1,0 +1,13 @@
+pub mod Member
+pub mod Rise
+pub mod Parts
+pub mod Places
+pub mod Writes
+pub mod Entries
+pub mod Chains
+pub mod Saved
+pub mod Rows
+pub mod Collected
+pub mod Describes
+pub mod Local
+pub mod Again

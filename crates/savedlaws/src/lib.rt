@@ -1,0 +1,1 @@
+// Laws: what a save leaves in memory describes the mapping.

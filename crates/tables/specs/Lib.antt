@@ -1,0 +1,4 @@
+pub mod Bytes
+pub mod Saved
+pub mod Described
+pub mod Restored

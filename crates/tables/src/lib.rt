@@ -1,0 +1,1 @@
+// The tables of the ITS as bytes in guest memory: definitions and their laws.
