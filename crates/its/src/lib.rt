@@ -77,7 +77,7 @@ fn memory_area(m: Memory) -> Area
     }
 }
 
-fn table_area(t: Table) -> Area
+pub fn table_area(t: Table) -> Area
     requires { ⌜ t .pages ≤ 128 ⌝ }
     ensures { λ r. ⌜ r ≡ tableArea t ⌝ }
 {
@@ -88,7 +88,7 @@ fn table_area(t: Table) -> Area
 }
 
 // How many event IDs there are of so many bits.
-fn event_ids(bits: u64) -> u64
+pub fn event_ids(bits: u64) -> u64
     requires { ⌜ bits ≤ 16 ⌝ }
     ensures { λ r. ⌜ (r ≡ 2 ^ bits) × (r ≤ 65536) ⌝ }
 {
@@ -96,7 +96,7 @@ fn event_ids(bits: u64) -> u64
 }
 
 // 8 bytes for each event ID.
-fn itt_area(d: Device) -> Area
+pub fn itt_area(d: Device) -> Area
     requires { ⌜ d .bits ≤ 16 ⌝ }
     ensures { λ r. ⌜ r ≡ ittArea d ⌝ }
 {
@@ -107,7 +107,7 @@ fn itt_area(d: Device) -> Area
 }
 
 // A table with the devices' ITTs at its end.
-fn with_itts(t: Areas, k: Mapping) -> Areas
+pub fn with_itts(t: Areas, k: Mapping) -> Areas
     requires { ⌜ (t .count ≤ 4) × Within k × (all smallDevice (rows k .devices) ≡ true) ⌝ }
     ensures { λ r. ⌜ (areas r ≡ areas t ++ map ittArea (rows k .devices)) × (r .count ≡ t .count + k .ndevices) ⌝ }
 {
@@ -135,7 +135,7 @@ fn table_areas(g: Guest, k: Mapping) -> Areas
 }
 
 // Whether an ID is below a table's entries, its bits are 1 to 16 and its ITT starts at a multiple of 256.
-fn is_formed(d: Device, entries: u64) -> bool
+pub fn is_formed(d: Device, entries: u64) -> bool
     ensures { λ r. ⌜ r ≡ isFormed entries d ⌝ }
 {
     if entries <= d.id {
@@ -243,7 +243,7 @@ pub fn unmap_collection(k: Mapping, icid: u64) -> Remapped
     accepted(mapping::remove_collection(k, at))
 }
 
-fn is_lpi(lpi: u64) -> bool
+pub fn is_lpi(lpi: u64) -> bool
     ensures { λ r. ⌜ r ≡ isLpi lpi ⌝ }
 {
     if lpi < FIRST_LPI {
@@ -350,7 +350,7 @@ pub fn lookup(k: Mapping, device: u64, event: u64) -> Reading
     guest::told(0, (e.lpi as u64) + 65536 * pe)
 }
 
-fn is_empty(k: Mapping) -> bool
+pub fn is_empty(k: Mapping) -> bool
     requires { ⌜ Within k ⌝ }
     ensures { λ r. ⌜ r ≡ isEmpty (rows k) ⌝ }
 {
