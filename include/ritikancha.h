@@ -58,6 +58,38 @@ int64_t rk_irq_activate(uint8_t *state, size_t state_len, uint64_t vcpu, uint64_
 int64_t rk_irq_line(uint8_t *state, size_t state_len, uint64_t vcpu, uint64_t intid, uint64_t level);
 int64_t rk_irq_trigger(uint8_t *state, size_t state_len, uint64_t vcpu, uint64_t intid, uint32_t word);
 
+/* The ITS mapping. Every command is -RK_ENXIO before ITS INIT, and all but placing also until the tables are placed.
+ * Placing the device and the collection table (start and pages of 4 KiB each): mapping not empty -RK_EBUSY; start not a multiple of
+ * 4,096 or pages not 1 to 128 -RK_EINVAL; outside memory -RK_EFAULT; the two overlap -RK_EINVAL. */
+int64_t rk_its_place(uint8_t *state, size_t state_len, uint64_t device_start, uint64_t device_pages, uint64_t collection_start,
+                     uint64_t collection_pages);
+
+/* Device: ID not below the table's entries, bits not 1 to 16, ITT not a multiple of 256 -RK_EINVAL; mapped -RK_EEXIST; a 33rd
+ * -RK_ENOMEM; its 8 x 2^bits bytes outside memory -RK_EFAULT; overlap with another table -RK_EINVAL. Removal takes its events along;
+ * not mapped -RK_ENOENT. */
+int64_t rk_its_map_device(uint8_t *state, size_t state_len, uint64_t device, uint64_t itt, uint64_t bits);
+int64_t rk_its_unmap_device(uint8_t *state, size_t state_len, uint64_t device);
+
+/* Collection: ICID above 65,535 or pe not below the VCPUs -RK_EINVAL; a 17th -RK_ENOMEM; one that stands gets the new pe. Removal: not
+ * there -RK_ENOENT; named by an event -RK_EINVAL. */
+int64_t rk_its_map_collection(uint8_t *state, size_t state_len, uint64_t icid, uint64_t pe);
+int64_t rk_its_unmap_collection(uint8_t *state, size_t state_len, uint64_t icid);
+
+/* Event: no device -RK_ENOENT; event not below 2^bits or LPI not 8,192 to 65,535 -RK_EINVAL; no collection -RK_ENOENT; mapped
+ * -RK_EEXIST; a 1,025th -RK_ENOMEM. Discard, move and lookup: -RK_ENOENT where anything named is missing. Lookup answers
+ * lpi + 65,536 x pe. */
+int64_t rk_its_map_event(uint8_t *state, size_t state_len, uint64_t device, uint64_t event, uint64_t lpi, uint64_t icid);
+int64_t rk_its_discard(uint8_t *state, size_t state_len, uint64_t device, uint64_t event);
+int64_t rk_its_move(uint8_t *state, size_t state_len, uint64_t device, uint64_t event, uint64_t icid);
+int64_t rk_its_lookup(const uint8_t *state, size_t state_len, uint64_t device, uint64_t event);
+
+/* Save writes the mapping as tables into the lent guest memory: the two tables and each mapped device's ITT, no other byte. Restore
+ * replaces the mapping by the one that those tables describe, and changes nothing else. Memory of the wrong length -RK_EFAULT; not
+ * initialised or not placed -RK_ENXIO; running -RK_EBUSY; restore also -RK_EINVAL, -RK_ENOMEM and -RK_EFAULT for tables that
+ * describe no mapping, by the first fault. Byte i of the memory is address start + i. */
+int64_t rk_its_save(const uint8_t *state, size_t state_len, uint8_t *memory, size_t memory_len);
+int64_t rk_its_restore(uint8_t *state, size_t state_len, const uint8_t *memory, size_t memory_len);
+
 #ifdef __cplusplus
 }
 #endif

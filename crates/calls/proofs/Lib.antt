@@ -1,3 +1,5 @@
 pub mod Answers
+pub mod Boxes
 pub mod Laws
-
+pub mod Saving
+pub mod Restoring

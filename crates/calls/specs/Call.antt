@@ -1,14 +1,14 @@
 -- Calls on lent bytes: the state, and the value of an attribute.
 use Prim.Native.Nat.{ℕ}
 use mathlib.Core.Path.{_≡_}
-use mathlib.Core.Bool.{Bool, _||_}
-use mathlib.Core.List.{List, [], _∷_}
+use mathlib.Core.Bool.{Bool, _||_, _&&_}
+use mathlib.Core.List.{List}
 use lib.IntN.{ℤ}
 use lib.ListN.{length}
 use lib.Dec.{eqb}
 use Rattle.lists.specs.Rows.{choose}
 use Rattle.answers.specs.Answer.{refusal, done}
-use Rattle.words.specs.Words.{le, bytesOf, bytesAll, putAt}
+use Rattle.words.specs.Words.{le, bytesOf}
 use Rattle.guest.specs.declared.Memory.{Memory}
 use Rattle.guest.specs.declared.Reading.{Reading}
 use Rattle.guest.specs.Machine.{Machine, Result, fresh}
@@ -17,6 +17,14 @@ use Rattle.layout.specs.Layout.{size, decode, stored}
 use Rattle.calls.specs.declared.Change.{Change}
 use Rattle.calls.specs.declared.Question.{Question}
 use Rattle.calls.specs.Steps.{changeStep, askStep}
+use Rattle.mapping.specs.Mapped.{Mapped, empty}
+use Rattle.maplayout.specs.MapLayout.{decodeMap, storedMap}
+use Rattle.tables.specs.Saved.{savedMemory}
+use Rattle.tables.specs.Restored.{Out, fault, found, restored}
+use Rattle.calls.specs.declared.Command.{Command}
+use Rattle.calls.specs.declared.Command.the-variants.{Reset}
+use Rattle.calls.specs.Commands.{BoxResult, commandStep, lookupStep, memoryFault}
+use Rattle.calls.specs.declared.Change.the-variants.{ItsSet}
 use Rattle.calls.specs.Sound.{sound}
 
 -- what a call hands back, and what it leaves in the lent bytes
@@ -65,7 +73,58 @@ unfoldable pub setUp : ℕ → ℕ → ℕ → List ℕ → Reply
 setUp width start len s =
     choose (eqb (length s) size)
     (choose (memoryOk (record { width = width; start = start; length = len }))
-    (record { answer = done 0; lent = stored (fresh width start len) (putAt s 2352 (bytesAll (bytesOf 8) (0 ∷ 0 ∷ 0 ∷ []))) })
+    (record { answer = done 0; lent = stored (fresh width start len) (storedMap empty s) })
+    (refused s 22))
+    (refused s 14)
+
+-- an ITS command
+abbrev pub settledBox : List ℕ → BoxResult → Reply
+settledBox s r =
+    choose (eqb (r .errno) 0)
+    (record { answer = done 0; lent = storedMap (r .next .mapped) (stored (r .next .machine) s) })
+    (refused s (r .errno))
+
+unfoldable pub commands : Command → List ℕ → Reply
+commands c s =
+    choose (eqb (length s) size)
+    (choose (sound s) (settledBox s (commandStep c (decode s) (decodeMap s))) (refused s 22))
+    (refused s 14)
+
+-- an attribute of the ITS: RESET is a command, every other goes by its group
+abbrev pub itsSets : ℕ → ℕ → ℕ → ℕ → List ℕ → Reply
+itsSets group attribute width value s =
+    choose (eqb group 4 && eqb attribute 4) (commands (Reset width) s) (changes (ItsSet group attribute width value) s)
+
+-- lookup leaves the state
+unfoldable pub looks : ℕ → ℕ → List ℕ → Reading
+looks device event s =
+    choose (eqb (length s) size)
+    (choose (sound s) (lookupStep device event (decode s) (decodeMap s)) (record { errno = 22; number = 0 }))
+    (record { errno = 14; number = 0 })
+
+-- save: what is lent is the memory; the state stays
+unfoldable pub saves : List ℕ → List ℕ → Reply
+saves s mem =
+    choose (eqb (length s) size)
+    (choose (sound s)
+    (choose (eqb (memoryFault (length mem) (decode s)) 0)
+    (record { answer = done 0; lent = savedMemory (decode s) (decodeMap s) mem })
+    (refused mem (memoryFault (length mem) (decode s))))
+    (refused mem 22))
+    (refused mem 14)
+
+-- restore "replaces the mapping and changes nothing else, in state or memory"
+abbrev pub restoredTo : List ℕ → Out → Reply
+restoredTo s (fault e) = refused s e
+restoredTo s (found k) = record { answer = done 0; lent = storedMap k s }
+
+unfoldable pub restores : List ℕ → List ℕ → Reply
+restores s mem =
+    choose (eqb (length s) size)
+    (choose (sound s)
+    (choose (eqb (memoryFault (length mem) (decode s)) 0)
+    (restoredTo s (restored (decode s) mem))
+    (refused s (memoryFault (length mem) (decode s))))
     (refused s 22))
     (refused s 14)
 

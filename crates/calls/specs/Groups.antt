@@ -7,7 +7,7 @@ use Rattle.lists.specs.Rows.{choose}
 use Rattle.guest.specs.declared.Reading.{Reading}
 use Rattle.guest.specs.Machine.{Machine, Result, refuse}
 use Rattle.frames.specs.Bases.{setGroup0, getGroup0, setItsGroup0, getItsGroup0}
-use Rattle.frames.specs.Vcpus.{setIrqs, getIrqs, itsInit, itsReset}
+use Rattle.frames.specs.Vcpus.{setIrqs, getIrqs, itsInit}
 use Rattle.frames.specs.Init.{vgicInit}
 use Rattle.irqs.specs.Registers.{setGroup1, getGroup1, setGroup5, getGroup5, setGroup7, getGroup7}
 
@@ -36,13 +36,12 @@ vgicGet group attribute width value m =
     (choose (eqb group 7) (getGroup7 attribute width m)
     (record { errno = 6; number = 0 })))))
 
--- Group 4 of the ITS: 0 INIT, 1 save, 2 restore, 4 RESET. Save and restore lend memory, so through a call that lends none they have
--- the wrong length of it.
+-- Group 4 of the ITS: 0 INIT, 1 save, 2 restore. Save and restore lend memory, so through a call that lends none they have the wrong
+-- length of it. Attribute 4, RESET, empties the mapping: it stands with the commands.
 unfoldable pub setItsGroup4 : ℕ → ℕ → Machine → Result
 setItsGroup4 attribute width m =
     choose (eqb attribute 0) (choose (eqb width 0) (itsInit m) (refuse m 14))
-    (choose (eqb attribute 4) (choose (eqb width 0) (itsReset m) (refuse m 14))
-    (choose (eqb attribute 1 || eqb attribute 2) (refuse m 14) (refuse m 6)))
+    (choose (eqb attribute 1 || eqb attribute 2) (refuse m 14) (refuse m 6))
 
 unfoldable pub itsSet : ℕ → ℕ → ℕ → ℕ → Machine → Result
 itsSet group attribute width value m =

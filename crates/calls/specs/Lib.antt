@@ -1,4 +1,5 @@
 pub mod Groups
 pub mod Steps
 pub mod Sound
+pub mod Commands
 pub mod Call

@@ -78,12 +78,6 @@ fn set_its_group4(g: Guest, attribute: u64, width: u64) -> Outcome
         }
         return frames::vcpus::its_init(g);
     }
-    if attribute == 4 {
-        if width != 0 {
-            return guest::refused(g, Errno::EFAULT);
-        }
-        return frames::vcpus::its_reset(g);
-    }
     if attribute == 1 {
         return guest::refused(g, Errno::EFAULT);
     }

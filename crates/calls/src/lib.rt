@@ -1,8 +1,10 @@
 // Every call on lent bytes: the test of the state, the step, and the state stored again.
+mod commands;
 mod groups;
 use guest::Guest;
 use guest::Outcome;
 use guest::Reading;
+use mapping::Mapping;
 ghost use mathlib.Core.Path.{_≡_};
 ghost use lib.ListN.{length};
 ghost use Rattle.guest.specs.Machine.{view, Does};
@@ -12,7 +14,11 @@ ghost use Rattle.calls.specs.Steps.{changeStep, askStep};
 ghost use Rattle.calls.specs.Sound.{Checks};
 ghost use mathlib.Core.Bool.{false};
 ghost use Prim.Native.Nat.{_<_, _^_};
+ghost use Rattle.mapping.specs.Mapped.{rows};
+ghost use Rattle.mapping.specs.MapRules.{MapKept};
+ghost use Rattle.calls.specs.Commands.{BoxDoes, commandStep};
 ghost use Rattle.calls.specs.Call.{changes, asks, setUp, valueOf, given, answered, Gives};
+ghost use Rattle.calls.specs.Call.{commands, looks, saves, restores};
 
 // Calls that may change the state. Attributes come with the width of the lent value and its number.
 pub enum Change {
@@ -36,10 +42,31 @@ pub enum Question {
     Pending(u64, u64),
 }
 
-// Whether bytes are sound, and the guest that they stand for if they are.
+// The commands of the ITS, and RESET with the width of its value.
+pub enum Command {
+    Place(u64, u64, u64, u64),
+    MapDevice(u64, u64, u64),
+    UnmapDevice(u64),
+    MapCollection(u64, u64),
+    UnmapCollection(u64),
+    MapEvent(u64, u64, u64, u64),
+    Discard(u64, u64),
+    Move(u64, u64, u64),
+    Reset(u64),
+}
+
+// Whether bytes are sound, and the guest and the mapping that they stand for if they are.
 pub struct Checked {
     pub sound: bool,
     pub guest: Guest,
+    pub mapping: Mapping,
+}
+
+// What a command comes to: an errno, 0 for none, and the next guest and mapping.
+pub struct BoxOutcome {
+    pub errno: u64,
+    pub guest: Guest,
+    pub mapping: Mapping,
 }
 
 pub fn step(g: Guest, c: Change) -> Outcome
@@ -78,10 +105,11 @@ fn unsound() -> Checked
     Checked {
         sound: false,
         guest: Guest::new(0, 0, 0),
+        mapping: Mapping::new(),
     }
 }
 
-// The test that every call makes first.
+// The test that every call makes first: the counts, before anything is loaded, then the guest's rules and the mapping's.
 pub fn examine(s: &[u8]) -> Checked
     requires { ⌜ length (now s) ≡ size ⌝ }
     ensures { λ r. ⌜ Checks (now (s .entry)) r ⌝ }
@@ -89,16 +117,21 @@ pub fn examine(s: &[u8]) -> Checked
     if !layout::counts_ok(s) {
         return unsound();
     }
-    if !layout::mapping_empty(s) {
+    if !maplayout::map_counts_ok(s) {
         return unsound();
     }
     let g = layout::load_guest(s);
     if !keeps::keeps_rules(g) {
         return unsound();
     }
+    let k = maplayout::load_mapping(s);
+    if !mapcheck::keeps_map_rules(g, k) {
+        return unsound();
+    }
     Checked {
         sound: true,
         guest: g,
+        mapping: k,
     }
 }
 
@@ -149,7 +182,8 @@ pub fn set_up(state: &mut [u8], width: u64, start: u64, length: u64) -> i64
     if !keeps::memory_ok(memory) {
         return -22;
     }
-    layout::clear_mapping(state);
+    let none = Mapping::new();
+    maplayout::store_mapping(state, none);
     layout::store_guest(state, g);
     0
 }
@@ -190,4 +224,110 @@ pub fn tell(r: Reading) -> i64
         return answers::refuse(errno);
     }
     answers::done(r.number)
+}
+
+// An ITS command as a step of the guest and its mapping.
+pub fn perform(g: Guest, k: Mapping, c: Command) -> BoxOutcome
+    requires { ⌜ MapKept g k ⌝ }
+    ensures { λ r. ⌜ BoxDoes r (commandStep c (view g) (rows k)) ⌝ }
+{
+    match c {
+        Command::Place(ds, dp, cs, cp) => commands::place(g, k, ds, dp, cs, cp),
+        Command::MapDevice(id, itt, bits) => commands::map_device(g, k, id, itt, bits),
+        Command::UnmapDevice(id) => commands::unmap_device(g, k, id),
+        Command::MapCollection(icid, pe) => commands::map_collection(g, k, icid, pe),
+        Command::UnmapCollection(icid) => commands::unmap_collection(g, k, icid),
+        Command::MapEvent(device, event, lpi, icid) => commands::map_event(g, k, device, event, lpi, icid),
+        Command::Discard(device, event) => commands::discard(g, k, device, event),
+        Command::Move(device, event, icid) => commands::move_event(g, k, device, event, icid),
+        Command::Reset(width) => commands::reset(g, k, width),
+    }
+}
+
+pub fn run_command(state: &mut [u8], c: Command) -> i64
+    ensures { λ r. ⌜ Gives (commands c (now (state .entry))) r (now (state .exit)) ⌝ }
+{
+    if state.len() != 11400 {
+        return -14;
+    }
+    let k = examine(state);
+    if !k.sound {
+        return -22;
+    }
+    let g = k.guest;
+    let m = k.mapping;
+    let o = perform(g, m, c);
+    let errno = o.errno;
+    if errno != 0 {
+        return answers::refuse(errno);
+    }
+    let next = o.guest;
+    let rows = o.mapping;
+    layout::store_guest(state, next);
+    maplayout::store_mapping(state, rows);
+    0
+}
+
+pub fn look(state: &[u8], device: u64, event: u64) -> Reading
+    ensures { λ r. ⌜ r ≡ looks device event (now (state .entry)) ⌝ }
+{
+    if state.len() != 11400 {
+        return guest::told(14, 0);
+    }
+    let k = examine(state);
+    if !k.sound {
+        return guest::told(22, 0);
+    }
+    let g = k.guest;
+    let m = k.mapping;
+    commands::look_up(g, m, device, event)
+}
+
+// Writes the tables into the lent memory; the state stays.
+pub fn save(state: &[u8], mem: &mut [u8]) -> i64
+    ensures { λ r. ⌜ Gives (saves (now (state .entry)) (now (mem .entry))) r (now (mem .exit)) ⌝ }
+{
+    if state.len() != 11400 {
+        return -14;
+    }
+    let k = examine(state);
+    if !k.sound {
+        return -22;
+    }
+    let g = k.guest;
+    let m = k.mapping;
+    let len = mem.len() as u64;
+    let fault = commands::memory_fault(g, len);
+    if fault != 0 {
+        return answers::refuse(fault);
+    }
+    save::save_tables(g, m, mem);
+    0
+}
+
+// Reads the mapping from the tables in the lent memory, which stays; nothing else of the state changes.
+pub fn restore(state: &mut [u8], mem: &[u8]) -> i64
+    ensures { λ r. ⌜ Gives (restores (now (state .entry)) (now (mem .entry))) r (now (state .exit)) ⌝ }
+{
+    if state.len() != 11400 {
+        return -14;
+    }
+    let k = examine(state);
+    if !k.sound {
+        return -22;
+    }
+    let g = k.guest;
+    let len = mem.len() as u64;
+    let fault = commands::memory_fault(g, len);
+    if fault != 0 {
+        return answers::refuse(fault);
+    }
+    let o = restore::restore_tables(g, mem);
+    let errno = o.errno;
+    if errno != 0 {
+        return answers::refuse(errno);
+    }
+    let rows = o.mapping;
+    maplayout::store_mapping(state, rows);
+    0
 }

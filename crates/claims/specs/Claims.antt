@@ -5,7 +5,7 @@ use mathlib.Core.Bool.{true}
 use mathlib.Core.List.{List}
 use Rattle.answers.specs.Errno.{listed}
 use Rattle.answers.specs.Answer.{refusal, done}
-use Rattle.claims.specs.Step.{Call, After, stateLen, vcpusStart, vcpusStop, setup, vcpuAdd, redistBase, vgicSet, itsSet, vgicGet, itsGet, irqPending, irqSetPending, irqClearPending, irqActivate, irqLine, irqTrigger}
+use Rattle.claims.specs.Step.{Call, After, stateLen, vcpusStart, vcpusStop, setup, vcpuAdd, redistBase, vgicSet, itsSet, vgicGet, itsGet, irqPending, irqSetPending, irqClearPending, irqActivate, irqLine, irqTrigger, itsPlace, itsMapEvent, itsMapDevice, itsMove, itsMapCollection, itsDiscard, itsLookup, itsUnmapDevice, itsUnmapCollection, itsSave, itsRestore}
 
 -- "Success is 0 or more, a refusal is the negated errno": a listed one, and then the state and the lent value stay
 pub data Answers (s v : List ℕ) (a : After) : Type 0 where
@@ -30,3 +30,14 @@ Passed (irqSetPending vcpu intid) = Unit {0}
 Passed (irqClearPending vcpu intid) = Unit {0}
 Passed (irqActivate vcpu intid) = Unit {0}
 Passed (irqLine vcpu intid level) = Unit {0}
+Passed (itsPlace ds dp cs cp) = Unit {0}
+Passed (itsMapDevice id itt bits) = Unit {0}
+Passed (itsUnmapDevice id) = Unit {0}
+Passed (itsMapCollection icid pe) = Unit {0}
+Passed (itsUnmapCollection icid) = Unit {0}
+Passed (itsMapEvent device event lpi icid) = Unit {0}
+Passed (itsDiscard device event) = Unit {0}
+Passed (itsMove device event icid) = Unit {0}
+Passed (itsLookup device event) = Unit {0}
+Passed itsSave = Unit {0}
+Passed itsRestore = Unit {0}

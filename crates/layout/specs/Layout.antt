@@ -7,7 +7,7 @@ use mathlib.Core.Path.{_≡_}
 use mathlib.Core.Bool.{Bool, _&&_}
 use mathlib.Core.List.{List, [], _∷_, _++_}
 use lib.ListN.{length, drop}
-use lib.Dec.{leb, eqb}
+use lib.Dec.{leb}
 use Rattle.words.specs.Words.{leAt, bytesOf, rowsOf, bytesAll, putAt}
 use Rattle.guest.specs.declared.Memory.{Memory}
 use Rattle.guest.specs.declared.Control.{Control}
@@ -127,7 +127,3 @@ stored m s =
 -- the numbers of rows are within the room for them
 unfoldable pub countsOk : List ℕ → Bool
 countsOk s = leb (leAt s 168 8) 32 && (leb (leAt s 176 8) 64 && leb (sharedCount (leAt s 40 8)) 31)
-
--- the mapping has no device, no collection and no event
-unfoldable pub mappingEmpty : List ℕ → Bool
-mappingEmpty s = eqb (leAt s 2352 8) 0 && (eqb (leAt s 2360 8) 0 && eqb (leAt s 2368 8) 0)

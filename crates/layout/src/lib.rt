@@ -23,7 +23,7 @@ ghost use Prim.Native.Nat.{_+_, _*_, _≤_, _<_};
 ghost use lib.ListN.{length, take, drop};
 ghost use Rattle.words.specs.Words.{rowsOf, bytesAll, bytesOf, putAt};
 ghost use Rattle.guest.specs.Machine.{view, Held, sharedCount};
-ghost use Rattle.layout.specs.Layout.{size, memoryOf, controlOf, frameAt, framesOf, tableAt, tablesOf, regionOf, regionBytes, vcpuOf, vcpuBytes, bankOf, bankBytes, controlWords, framesWords, tablesWords, headWords, decode, stored, countsOk, mappingEmpty};
+ghost use Rattle.layout.specs.Layout.{size, memoryOf, controlOf, frameAt, framesOf, tableAt, tablesOf, regionOf, regionBytes, vcpuOf, vcpuBytes, bankOf, bankBytes, controlWords, framesWords, tablesWords, headWords, decode, stored, countsOk};
 
 fn load_memory(s: &[u8]) -> Memory
     requires { ⌜ length (now s) ≡ size ⌝ }
@@ -273,19 +273,6 @@ pub fn counts_ok(s: &[u8]) -> bool
     banks <= 31
 }
 
-pub fn mapping_empty(s: &[u8]) -> bool
-    requires { ⌜ length (now s) ≡ size ⌝ }
-    ensures { λ r. ⌜ r ≡ mappingEmpty (now (s .entry)) ⌝ }
-{
-    if get64(s, 2352) != 0 {
-        return false;
-    }
-    if get64(s, 2360) != 0 {
-        return false;
-    }
-    get64(s, 2368) == 0
-}
-
 // The guest that the bytes hold.
 pub fn load_guest(s: &[u8]) -> Guest
     requires { ⌜ (length (now s) ≡ size) × (countsOk (now s) ≡ true) ⌝ }
@@ -374,12 +361,4 @@ pub fn store_guest(s: &mut [u8], g: Guest)
     store_vcpus(s, vcpu_rows, vcpus.count);
     store_regions(s, region_rows, regions.count);
     store_head(s, memory, control, frames, tables, regions.count as u64, vcpus.count as u64);
-}
-
-// No device, no collection, no event.
-pub fn clear_mapping(s: &mut [u8])
-    requires { ⌜ length (now s) ≡ size ⌝ }
-    ensures { λ _. ⌜ now (s .exit) ≡ putAt (now (s .entry)) 2352 (bytesAll (bytesOf 8) (0 ∷ 0 ∷ 0 ∷ [])) ⌝ }
-{
-    store_three(s, 2352, 0, 0, 0);
 }

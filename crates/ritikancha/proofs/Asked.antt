@@ -11,17 +11,24 @@ use Rattle.lists.proofs.All.{none, more}
 use Rattle.words.proofs.Bytes.{Bytes}
 use Rattle.guest.specs.declared.Reading.{Reading}
 use Rattle.rules.specs.Rules.{rules}
-use Rattle.layout.specs.Layout.{size, decode, countsOk, mappingEmpty}
+use Rattle.layout.specs.Layout.{size, decode, countsOk}
+use Rattle.mapping.specs.MapRules.{mapRules}
+use Rattle.mapping.specs.Commands.{lookup}
+use Rattle.maplayout.specs.MapLayout.{decodeMap, mapCountsOk}
+use Rattle.mapkept.proofs.Answers.{lookup-listed}
+use Rattle.mapkept.proofs.Words.{lookup-small}
+use Rattle.kept.specs.Good.{listed}
+use Rattle.calls.specs.Commands.{ready, lookupStep}
 use Rattle.layout.proofs.Typed.{decode-words}
 use Rattle.kept.specs.Good.{Good}
-use Rattle.kept.proofs.Choice.{chosen, choose-by, and-right}
+use Rattle.kept.proofs.Choice.{chosen, choose-by, and-left, and-right}
 use Rattle.kept.proofs.Readings.{redistBase-small}
 use Rattle.irqkept.proofs.Answers.{listed-small, irqPending-small}
 use Rattle.calls.specs.declared.Question.{Question}
 use Rattle.calls.specs.declared.Question.the-variants.{RedistBase, Pending}
 use Rattle.calls.specs.Steps.{askStep}
 use Rattle.calls.specs.Sound.{sound}
-use Rattle.calls.specs.Call.{asks}
+use Rattle.calls.specs.Call.{asks, looks}
 use Rattle.calls.proofs.Answers.{ask-known}
 
 pub bytes-from : (l : List ℕ) → ((k : ℕ) → getD l k 0 < 256) → Bytes l
@@ -32,7 +39,7 @@ bytes-from (x ∷ xs) h = more (h 0) (bytes-from xs (λ k. h (suc k)))
 pub good-decode : (s : List ℕ) → Bytes s → sound s ≡ true → Good (decode s)
 unfolding sound
 good-decode s b h =
-    record { words = decode-words s b; rules = and-right (mappingEmpty s) _ (and-right (countsOk s) _ h) }
+    record { words = decode-words s b; rules = and-left (rules (decode s)) _ (and-right (mapCountsOk s) _ (and-right (countsOk s) _ h)) }
 
 pub asks-small : (q : Question) (s : List ℕ) → asks q s .errno < 4096
 unfolding asks
@@ -53,3 +60,32 @@ redist-number k s b = number-small (RedistBase k) s (λ h. redistBase-small k (d
 
 pub pending-number : (k i : ℕ) (s : List ℕ) → asks (Pending k i) s .number < 2 ^ 63
 pending-number k i s = number-small (Pending k i) s (λ h. let e = irqPending-small k i (decode s) in lt-of-le-of-lt e (lit< tt))
+
+-- a lookup
+pub look-small : (device event : ℕ) (s : List ℕ) → looks device event s .errno < 4096
+unfolding looks lookupStep
+look-small device event s =
+    chosen Small (eqb (length s) size)
+    (chosen Small (sound s)
+    (chosen Small (ready (decode s)) (listed-small _ (lookup-listed device event (decodeMap s))) (lit< tt))
+    (lit< tt))
+    (lit< tt)
+  where
+    Small : Reading → Type 0
+    Small r = r .errno < 4096
+
+look-sound : (device event : ℕ) (s : List ℕ) → sound s ≡ true → lookup device event (decodeMap s) .number < 2 ^ 63
+unfolding sound
+look-sound device event s h =
+    let r = and-right (mapCountsOk s) _ (and-right (countsOk s) _ h) in
+    lookup-small device event (decode s) (decodeMap s) (and-left (rules (decode s)) _ r) (and-right (rules (decode s)) _ r)
+
+pub look-number : (device event : ℕ) (s : List ℕ) → looks device event s .number < 2 ^ 63
+unfolding looks lookupStep
+look-number device event s =
+    chosen Fits (eqb (length s) size)
+    (choose-by Fits (sound s) (λ h. chosen Fits (ready (decode s)) (look-sound device event s h) (lit< tt)) (λ _. lit< tt))
+    (lit< tt)
+  where
+    Fits : Reading → Type 0
+    Fits r = r .number < 2 ^ 63

@@ -1,13 +1,15 @@
 // The C interface. Every promise is an equation with a definition, for every input; none asks anything of the caller.
 use calls::Change;
+use calls::Command;
 use calls::Question;
 ghost use mathlib.Core.Path.{_≡_};
 ghost use lib.IntN.{pos};
 ghost use lib.ListN.{length};
 ghost use Rattle.layout.specs.Layout.{size};
 ghost use Rattle.calls.specs.declared.Change.{Change};
+ghost use Rattle.calls.specs.declared.Command.{Command};
 ghost use Rattle.calls.specs.declared.Question.{Question};
-ghost use Rattle.calls.specs.Call.{changes, asks, setUp, valueOf, given, answered, Gives};
+ghost use Rattle.calls.specs.Call.{changes, asks, setUp, valueOf, given, answered, commands, itsSets, looks, saves, restores, Gives};
 
 // The length of a guest's state in bytes.
 #[no_mangle]
@@ -55,13 +57,20 @@ pub extern "C" fn rk_vgic_set(state: &mut [u8], group: u64, attribute: u64, valu
     calls::apply(state, Change::VgicSet(group, attribute, width, number))
 }
 
+// RESET, group 4, attribute 4, is a command: it empties the mapping.
 #[no_mangle]
 pub extern "C" fn rk_its_set(state: &mut [u8], group: u64, attribute: u64, value: &[u8]) -> i64
-    ensures { λ r. ⌜ Gives (changes (Change.ItsSet group attribute (length (now (value .entry))) (valueOf (now (value .entry)))) (now (state .entry))) r (now (state .exit)) ⌝ }
+    ensures { λ r. ⌜ Gives (itsSets group attribute (length (now (value .entry))) (valueOf (now (value .entry))) (now (state .entry))) r (now (state .exit)) ⌝ }
 {
     let width = value.len() as u64;
     let number = calls::value_of(value);
-    calls::apply(state, Change::ItsSet(group, attribute, width, number))
+    if group != 4 {
+        return calls::apply(state, Change::ItsSet(group, attribute, width, number));
+    }
+    if attribute != 4 {
+        return calls::apply(state, Change::ItsSet(group, attribute, width, number));
+    }
+    calls::run_command(state, Command::Reset(width))
 }
 
 #[no_mangle]
@@ -130,4 +139,81 @@ pub extern "C" fn rk_irq_trigger(state: &mut [u8], vcpu: u64, intid: u64, word: 
     ensures { λ r. ⌜ Gives (changes (Change.Trigger vcpu intid word) (now (state .entry))) r (now (state .exit)) ⌝ }
 {
     calls::apply(state, Change::Trigger(vcpu, intid, word as u64))
+}
+
+#[no_mangle]
+pub extern "C" fn rk_its_place(state: &mut [u8], dstart: u64, dpages: u64, cstart: u64, cpages: u64) -> i64
+    ensures { λ r. ⌜ Gives (commands (Command.Place dstart dpages cstart cpages) (now (state .entry))) r (now (state .exit)) ⌝ }
+{
+    calls::run_command(state, Command::Place(dstart, dpages, cstart, cpages))
+}
+
+#[no_mangle]
+pub extern "C" fn rk_its_map_device(state: &mut [u8], device: u64, itt: u64, bits: u64) -> i64
+    ensures { λ r. ⌜ Gives (commands (Command.MapDevice device itt bits) (now (state .entry))) r (now (state .exit)) ⌝ }
+{
+    calls::run_command(state, Command::MapDevice(device, itt, bits))
+}
+
+#[no_mangle]
+pub extern "C" fn rk_its_unmap_device(state: &mut [u8], device: u64) -> i64
+    ensures { λ r. ⌜ Gives (commands (Command.UnmapDevice device) (now (state .entry))) r (now (state .exit)) ⌝ }
+{
+    calls::run_command(state, Command::UnmapDevice(device))
+}
+
+#[no_mangle]
+pub extern "C" fn rk_its_map_collection(state: &mut [u8], icid: u64, pe: u64) -> i64
+    ensures { λ r. ⌜ Gives (commands (Command.MapCollection icid pe) (now (state .entry))) r (now (state .exit)) ⌝ }
+{
+    calls::run_command(state, Command::MapCollection(icid, pe))
+}
+
+#[no_mangle]
+pub extern "C" fn rk_its_unmap_collection(state: &mut [u8], icid: u64) -> i64
+    ensures { λ r. ⌜ Gives (commands (Command.UnmapCollection icid) (now (state .entry))) r (now (state .exit)) ⌝ }
+{
+    calls::run_command(state, Command::UnmapCollection(icid))
+}
+
+#[no_mangle]
+pub extern "C" fn rk_its_map_event(state: &mut [u8], device: u64, event: u64, lpi: u64, icid: u64) -> i64
+    ensures { λ r. ⌜ Gives (commands (Command.MapEvent device event lpi icid) (now (state .entry))) r (now (state .exit)) ⌝ }
+{
+    calls::run_command(state, Command::MapEvent(device, event, lpi, icid))
+}
+
+#[no_mangle]
+pub extern "C" fn rk_its_discard(state: &mut [u8], device: u64, event: u64) -> i64
+    ensures { λ r. ⌜ Gives (commands (Command.Discard device event) (now (state .entry))) r (now (state .exit)) ⌝ }
+{
+    calls::run_command(state, Command::Discard(device, event))
+}
+
+#[no_mangle]
+pub extern "C" fn rk_its_move(state: &mut [u8], device: u64, event: u64, icid: u64) -> i64
+    ensures { λ r. ⌜ Gives (commands (Command.Move device event icid) (now (state .entry))) r (now (state .exit)) ⌝ }
+{
+    calls::run_command(state, Command::Move(device, event, icid))
+}
+
+#[no_mangle]
+pub extern "C" fn rk_its_lookup(state: &[u8], device: u64, event: u64) -> i64
+    ensures { λ r. ⌜ r ≡ answered (looks device event (now (state .entry))) ⌝ }
+{
+    calls::tell(calls::look(state, device, event))
+}
+
+#[no_mangle]
+pub extern "C" fn rk_its_save(state: &[u8], memory: &mut [u8]) -> i64
+    ensures { λ r. ⌜ Gives (saves (now (state .entry)) (now (memory .entry))) r (now (memory .exit)) ⌝ }
+{
+    calls::save(state, memory)
+}
+
+#[no_mangle]
+pub extern "C" fn rk_its_restore(state: &mut [u8], memory: &[u8]) -> i64
+    ensures { λ r. ⌜ Gives (restores (now (state .entry)) (now (memory .entry))) r (now (state .exit)) ⌝ }
+{
+    calls::restore(state, memory)
 }

@@ -8,51 +8,39 @@ use Rattle.calls.proofs.groups.vgic_get.Reads as vgic-get-reads
 use Rattle.frames.proofs.init.redist_base.Reads as redist-base-reads
 use Rattle.irqs.proofs.calls.irq_pending.Reads as irq-pending-reads
 
--- src/lib.rt:68:27
 enum-known-q : tie.Need-enum-known-q
 enum-known-q c = search needs
 
--- src/lib.rt:68:62
 vgic-get-requires : tie.Need-vgic-get-requires
 vgic-get-requires c κs = search needs
 
--- src/lib.rt:69:26
 enum-known-q-2 : tie.Need-enum-known-q-2
 enum-known-q-2 c = search needs
 
--- src/lib.rt:69:54
 its-get-requires : tie.Need-its-get-requires
 its-get-requires c κs = search needs
 
--- src/lib.rt:70:30
 enum-known-q-3 : tie.Need-enum-known-q-3
 enum-known-q-3 c = search needs
 
--- src/lib.rt:70:39
 redist-base-requires : tie.Need-redist-base-requires
 redist-base-requires c κs = search needs
 
--- src/lib.rt:71:27
 enum-known-q-4 : tie.Need-enum-known-q-4
 enum-known-q-4 c = search needs
 
--- src/lib.rt:71:43
 irq-pending-requires : tie.Need-irq-pending-requires
 irq-pending-requires c κs = search needs
 
--- src/lib.rt:63:1
 returns : tie.Need-returns
 returns c = rw (c .before .before .q .given .1) (c .vgic-get .ensures)
 
--- src/lib.rt:63:1
 returns-2 : tie.Need-returns-2
 returns-2 c = rw (c .before .before .q2 .given .1) (c .its-get .ensures)
 
--- src/lib.rt:63:1
 returns-3 : tie.Need-returns-3
 returns-3 c = rw (c .before .before .q3 .given .1) (c .redist-base .ensures)
 
--- src/lib.rt:63:1
 returns-4 : tie.Need-returns-4
 returns-4 c = rw (c .before .before .q4 .given .1) (c .irq-pending .ensures)
 

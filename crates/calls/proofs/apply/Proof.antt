@@ -14,27 +14,21 @@ use Rattle.calls.proofs.examine.Reads as examine-reads
 use Rattle.calls.proofs.step.Reads as step-reads
 use Rattle.layout.proofs.store_guest.Reads as store-guest-reads
 
--- src/lib.rt:109:9
 returns : tie.Need-returns
 returns c = short _ _ (c .if1 .taken)
 
--- src/lib.rt:111:9
 examine-requires : tie.Need-examine-requires
 examine-requires c κs = search needs
 
--- src/lib.rt:113:9
 same-length : tie.Need-same-length
 same-length c = search needs
 
--- src/lib.rt:113:9
 returns-2 : tie.Need-returns-2
 returns-2 c = unsound _ _ (c .before .before .before .before .if1 .left) _ (c .before .before .examine .ensures) (not-true _ (c .if2 .taken))
 
--- src/lib.rt:116:9
 step-requires : tie.Need-step-requires
-step-requires c κs = c .before .before .before .examine .ensures .guest (not-false _ (c .before .if2 .left)) .1
+step-requires c κs = c .before .before .before .examine .ensures .stands (not-false _ (c .before .if2 .left)) .kept .guest
 
--- src/lib.rt:119:9
 refuse-requires : tie.Need-refuse-requires
 refuse-requires c κs = 
     let o = c .before in
@@ -45,7 +39,6 @@ refuse-requires c κs =
 same-length-2 : tie.Need-same-length-2
 same-length-2 c = search needs
 
--- src/lib.rt:119:9
 returns-3 : tie.Need-returns-3
 returns-3 c = 
     let o = c .before .before in
@@ -54,15 +47,12 @@ returns-3 c =
     refuses _ _ (e .before .before .if1 .left) _ (e .examine .ensures) (not-false _ (o .before .before .if2 .left)) _ (o .step .ensures)
     _ (c .before .if3 .taken) (t ∙ c .refuse .ensures)
 
--- src/lib.rt:122:5
 store-guest-requires : tie.Need-store-guest-requires
 store-guest-requires c κs = search needs
 
--- src/lib.rt:105:1
 same-length-3 : tie.Need-same-length-3
 same-length-3 c = search needs
 
--- src/lib.rt:105:1
 returns-4 : tie.Need-returns-4
 returns-4 c = 
     let w = c .before .before in

@@ -10,31 +10,24 @@ use Rattle.calls.proofs.answer.Reads as answer-reads
 use Rattle.calls.proofs.examine.Reads as examine-reads
 use Rattle.guest.proofs.told.Reads as told-reads
 
--- src/lib.rt:130:9
 told-requires : tie.Need-told-requires
 told-requires c κs = search needs
 
--- src/lib.rt:130:9
 returns : tie.Need-returns
 returns c = ask-short _ _ _ (c .before .if1 .taken) (c .told .ensures)
 
--- src/lib.rt:132:9
 examine-requires : tie.Need-examine-requires
 examine-requires c κs = search needs
 
--- src/lib.rt:134:9
 told-requires-2 : tie.Need-told-requires-2
 told-requires-2 c κs = search needs
 
--- src/lib.rt:134:9
 returns-2 : tie.Need-returns-2
 returns-2 c = ask-unsound _ _ (c .before .before .before .before .if1 .left) _ (c .before .before .before .examine .ensures) _ (not-true _ (c .before .if2 .taken)) (c .told2 .ensures)
 
--- src/lib.rt:137:5
 answer-requires : tie.Need-answer-requires
-answer-requires c κs = c .before .before .before .examine .ensures .guest (not-false _ (c .before .if2 .left)) .1
+answer-requires c κs = c .before .before .before .examine .ensures .stands (not-false _ (c .before .if2 .left)) .kept .guest
 
--- src/lib.rt:126:1
 returns-3 : tie.Need-returns-3
 returns-3 c = ask-answers _ _ (c .before .before .before .before .before .if1 .left) _ (c .before .before .before .before .examine .ensures) _ (not-false _ (c .before .before .if2 .left)) (c .answer .ensures)
 

@@ -11,25 +11,20 @@ use Rattle.calls.proofs.give.Lts as lts
 use Rattle.answers.proofs.refuse.Reads as refuse-reads
 use Rattle.words.proofs.fill.Reads as fill-reads
 
--- src/lib.rt:177:9
 refuse-requires : tie.Need-refuse-requires
 refuse-requires c κs = search needs
 
--- src/lib.rt:177:9
 returns : tie.Need-returns
 returns c = 
     let t : toZ w64 (ofZ w64 (c .refuse .result)) ≡ c .refuse .result = search needs in
     gives-no _ _ _ (c .before .if1 .taken) (t ∙ c .refuse .ensures)
 
--- src/lib.rt:179:5
 fill-requires : tie.Need-fill-requires
 fill-requires c κs = search needs
 
--- src/lib.rt:171:1
 same-length : tie.Need-same-length
 same-length c = search needs
 
--- src/lib.rt:171:1
 returns-2 : tie.Need-returns-2
 returns-2 c = let s = c .before .before .before .before .before .before in gives-yes (s .args .r) (s .args .value .now) _ (c .before .before .before .before .if1 .left) (c .before .before .fill .ensures)
 

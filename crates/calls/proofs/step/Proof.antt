@@ -12,123 +12,93 @@ use Rattle.irqs.proofs.calls.irq_line.Reads as irq-line-reads
 use Rattle.irqs.proofs.calls.irq_set.Reads as irq-set-reads
 use Rattle.irqs.proofs.calls.irq_trigger.Reads as irq-trigger-reads
 
--- src/lib.rt:50:25
 enum-known-c : tie.Need-enum-known-c
 enum-known-c c = search needs
 
--- src/lib.rt:50:38
 add-vcpu-requires : tie.Need-add-vcpu-requires
 add-vcpu-requires c κs = search needs
 
--- src/lib.rt:51:26
 enum-told : tie.Need-enum-told
 enum-told c = search needs
 
--- src/lib.rt:51:26
 set-running-requires : tie.Need-set-running-requires
 set-running-requires c κs = search needs
 
--- src/lib.rt:52:25
 enum-told-2 : tie.Need-enum-told-2
 enum-told-2 c = search needs
 
--- src/lib.rt:52:25
 set-running-requires-2 : tie.Need-set-running-requires-2
 set-running-requires-2 c κs = search needs
 
--- src/lib.rt:53:25
 enum-known-c-2 : tie.Need-enum-known-c-2
 enum-known-c-2 c = search needs
 
--- src/lib.rt:53:60
 vgic-set-requires : tie.Need-vgic-set-requires
 vgic-set-requires c κs = search needs
 
--- src/lib.rt:54:24
 enum-known-c-3 : tie.Need-enum-known-c-3
 enum-known-c-3 c = search needs
 
--- src/lib.rt:54:59
 its-set-requires : tie.Need-its-set-requires
 its-set-requires c κs = search needs
 
--- src/lib.rt:55:28
 enum-known-c-4 : tie.Need-enum-known-c-4
 enum-known-c-4 c = search needs
 
--- src/lib.rt:55:44
 irq-set-requires : tie.Need-irq-set-requires
 irq-set-requires c κs = search needs
 
--- src/lib.rt:56:30
 enum-known-c-5 : tie.Need-enum-known-c-5
 enum-known-c-5 c = search needs
 
--- src/lib.rt:56:46
 irq-clear-requires : tie.Need-irq-clear-requires
 irq-clear-requires c κs = search needs
 
--- src/lib.rt:57:26
 enum-known-c-6 : tie.Need-enum-known-c-6
 enum-known-c-6 c = search needs
 
--- src/lib.rt:57:42
 irq-clear-requires-2 : tie.Need-irq-clear-requires-2
 irq-clear-requires-2 c κs = search needs
 
--- src/lib.rt:58:22
 enum-known-c-7 : tie.Need-enum-known-c-7
 enum-known-c-7 c = search needs
 
--- src/lib.rt:58:45
 irq-line-requires : tie.Need-irq-line-requires
 irq-line-requires c κs = search needs
 
--- src/lib.rt:59:25
 enum-known-c-8 : tie.Need-enum-known-c-8
 enum-known-c-8 c = search needs
 
--- src/lib.rt:59:47
 irq-trigger-requires : tie.Need-irq-trigger-requires
 irq-trigger-requires c κs = search needs
 
--- src/lib.rt:45:1
 returns : tie.Need-returns
 returns c = rw (c .before .before .c .given .1) (c .add-vcpu .ensures)
 
--- src/lib.rt:45:1
 returns-2 : tie.Need-returns-2
 returns-2 c = rw (c .before .enum-told .given .1) (c .set-running .ensures)
 
--- src/lib.rt:45:1
 returns-3 : tie.Need-returns-3
 returns-3 c = rw (c .before .enum-told2 .given .1) (c .set-running2 .ensures)
 
--- src/lib.rt:45:1
 returns-4 : tie.Need-returns-4
 returns-4 c = rw (c .before .before .c2 .given .1) (c .vgic-set .ensures)
 
--- src/lib.rt:45:1
 returns-5 : tie.Need-returns-5
 returns-5 c = rw (c .before .before .c3 .given .1) (c .its-set .ensures)
 
--- src/lib.rt:45:1
 returns-6 : tie.Need-returns-6
 returns-6 c = rw (c .before .before .c4 .given .1) (c .irq-set .ensures)
 
--- src/lib.rt:45:1
 returns-7 : tie.Need-returns-7
 returns-7 c = rw (c .before .before .c5 .given .1) (c .irq-clear .ensures)
 
--- src/lib.rt:45:1
 returns-8 : tie.Need-returns-8
 returns-8 c = rw (c .before .before .c6 .given .1) (c .irq-clear2 .ensures)
 
--- src/lib.rt:45:1
 returns-9 : tie.Need-returns-9
 returns-9 c = rw (c .before .before .c7 .given .1) (c .irq-line .ensures)
 
--- src/lib.rt:45:1
 returns-10 : tie.Need-returns-10
 returns-10 c = rw (c .before .before .c8 .given .1) (c .irq-trigger .ensures)
 

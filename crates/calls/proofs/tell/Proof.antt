@@ -10,21 +10,17 @@ use Rattle.calls.proofs.tell.Lts as lts
 use Rattle.answers.proofs.done.Reads as done-reads
 use Rattle.answers.proofs.refuse.Reads as refuse-reads
 
--- src/lib.rt:190:9
 refuse-requires : tie.Need-refuse-requires
 refuse-requires c κs = search needs
 
--- src/lib.rt:190:9
 returns : tie.Need-returns
 returns c = 
     let t : toZ w64 (ofZ w64 (c .refuse .result)) ≡ c .refuse .result = search needs in
     rw (ne-eqb _ _ (c .before .if1 .taken)) (t ∙ c .refuse .ensures)
 
--- src/lib.rt:192:5
 done-requires : tie.Need-done-requires
 done-requires c κs = search needs
 
--- src/lib.rt:184:1
 returns-2 : tie.Need-returns-2
 returns-2 c = 
     let t : toZ w64 (ofZ w64 (c .done .result)) ≡ c .done .result = search needs in

@@ -8,23 +8,18 @@ use Rattle.calls.proofs.value_of.Lts as lts
 use Rattle.words.proofs.get32.Reads as get32-reads
 use Rattle.words.proofs.get64.Reads as get64-reads
 
--- src/lib.rt:162:9
 get32-requires : tie.Need-get32-requires
 get32-requires c κs = search needs
 
--- src/lib.rt:162:9
 returns : tie.Need-returns
 returns c = value-four _ _ (c .before .if1 .taken) (c .get32 .ensures .is)
 
--- src/lib.rt:165:9
 get64-requires : tie.Need-get64-requires
 get64-requires c κs = search needs
 
--- src/lib.rt:165:9
 returns-2 : tie.Need-returns-2
 returns-2 c = value-eight _ _ (c .before .if2 .taken) (c .get64 .ensures .is)
 
--- src/lib.rt:158:1
 returns-3 : tie.Need-returns-3
 returns-3 c = value-none _ (c .before .if1 .left) (c .if2 .left)
 

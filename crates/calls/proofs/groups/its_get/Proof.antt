@@ -9,20 +9,16 @@ use Rattle.calls.proofs.groups.its_get.Lts as lts
 use Rattle.frames.proofs.bases.get_its_group0.Reads as get-its-group0-reads
 use Rattle.guest.proofs.told.Reads as told-reads
 
--- src/groups.rt:114:9
 get-its-group0-requires : tie.Need-get-its-group0-requires
 get-its-group0-requires c κs = search needs
 
--- src/groups.rt:114:9
 returns : tie.Need-returns
 unfolding itsGet
 returns c = rw (eq-eqb _ _ (c .before .if1 .taken)) (c .get-its-group0 .ensures)
 
--- src/groups.rt:116:5
 told-requires : tie.Need-told-requires
 told-requires c κs = search needs
 
--- src/groups.rt:109:1
 returns-2 : tie.Need-returns-2
 unfolding itsGet
 returns-2 c = rw (ne-eqb _ _ (c .before .if1 .left)) (c .told .ensures)

@@ -11,29 +11,23 @@ use Rattle.calls.proofs.groups.set_its_group4.Reads as set-its-group4-r
 use Rattle.frames.proofs.bases.set_its_group0.Reads as set-its-group0-reads
 use Rattle.guest.proofs.refused.Reads as refused-reads
 
--- src/groups.rt:101:9
 set-its-group0-requires : tie.Need-set-its-group0-requires
 set-its-group0-requires c κs = search needs
 
--- src/groups.rt:101:9
 returns : tie.Need-returns
 unfolding itsSet
 returns c = rw (eq-eqb _ _ (c .before .if1 .taken)) (c .set-its-group0 .ensures)
 
--- src/groups.rt:104:9
 set-its-group4-requires : tie.Need-set-its-group4-requires
 set-its-group4-requires c κs = search needs
 
--- src/groups.rt:104:9
 returns-2 : tie.Need-returns-2
 unfolding itsSet
 returns-2 c = rw (ne-eqb _ _ (c .before .before .if1 .left), eq-eqb _ _ (c .before .if2 .taken)) (c .set-its-group4 .ensures)
 
--- src/groups.rt:106:5
 refused-requires : tie.Need-refused-requires
 refused-requires c κs = search needs
 
--- src/groups.rt:96:1
 returns-3 : tie.Need-returns-3
 unfolding itsSet
 returns-3 c = rw (ne-eqb _ _ (c .before .before .if1 .left), ne-eqb _ _ (c .before .if2 .left)) (refusing (c .before .before .before .pre .held) (c .refused .ensures))

@@ -10,29 +10,23 @@ use Rattle.calls.proofs.groups.set_group4.Lts as lts
 use Rattle.frames.proofs.init.vgic_init.Reads as vgic-init-reads
 use Rattle.guest.proofs.refused.Reads as refused-reads
 
--- src/groups.rt:16:9
 refused-requires : tie.Need-refused-requires
 refused-requires c κs = search needs
 
--- src/groups.rt:16:9
 returns : tie.Need-returns
 unfolding setGroup4
 returns c = rw (ne-eqb _ _ (c .before .if1 .taken)) (refusing (c .before .before .pre .held) (c .refused .ensures))
 
--- src/groups.rt:19:9
 refused-requires-2 : tie.Need-refused-requires-2
 refused-requires-2 c κs = search needs
 
--- src/groups.rt:19:9
 returns-2 : tie.Need-returns-2
 unfolding setGroup4
 returns-2 c = rw (eq-eqb _ _ (c .before .before .if1 .left), ne-eqb _ _ (c .before .if2 .taken)) (refusing (c .before .before .before .pre .held) (c .refused2 .ensures))
 
--- src/groups.rt:21:5
 vgic-init-requires : tie.Need-vgic-init-requires
 vgic-init-requires c κs = search needs
 
--- src/groups.rt:11:1
 returns-3 : tie.Need-returns-3
 unfolding setGroup4
 returns-3 c = rw (eq-eqb _ _ (c .before .before .if1 .left), eq-eqb _ _ (c .before .if2 .left)) (c .vgic-init .ensures)

@@ -13,56 +13,44 @@ use Rattle.irqs.proofs.groups.get_group1.Reads as get-group1-reads
 use Rattle.irqs.proofs.groups.get_group5.Reads as get-group5-reads
 use Rattle.irqs.proofs.groups.get_group7.Reads as get-group7-reads
 
--- src/groups.rt:54:9
 get-group0-requires : tie.Need-get-group0-requires
 get-group0-requires c κs = search needs
 
--- src/groups.rt:54:9
 returns : tie.Need-returns
 unfolding vgicGet
 returns c = rw (eq-eqb _ _ (c .before .if1 .taken)) (c .get-group0 .ensures)
 
--- src/groups.rt:57:9
 get-group1-requires : tie.Need-get-group1-requires
 get-group1-requires c κs = search needs
 
--- src/groups.rt:57:9
 returns-2 : tie.Need-returns-2
 unfolding vgicGet
 returns-2 c = rw (ne-eqb _ _ (c .before .before .if1 .left), eq-eqb _ _ (c .before .if2 .taken)) (c .get-group1 .ensures)
 
--- src/groups.rt:60:9
 get-irqs-requires : tie.Need-get-irqs-requires
 get-irqs-requires c κs = search needs
 
--- src/groups.rt:60:9
 returns-3 : tie.Need-returns-3
 unfolding vgicGet
 returns-3 c = rw (ne-eqb _ _ (c .before .before .before .if1 .left), ne-eqb _ _ (c .before .before .if2 .left), eq-eqb _ _ (c .before .if3 .taken)) (c .get-irqs .ensures)
 
--- src/groups.rt:63:9
 get-group5-requires : tie.Need-get-group5-requires
 get-group5-requires c κs = search needs
 
--- src/groups.rt:63:9
 returns-4 : tie.Need-returns-4
 unfolding vgicGet
 returns-4 c = rw (ne-eqb _ _ (c .before .before .before .before .if1 .left), ne-eqb _ _ (c .before .before .before .if2 .left), ne-eqb _ _ (c .before .before .if3 .left), eq-eqb _ _ (c .before .if4 .taken)) (c .get-group5 .ensures)
 
--- src/groups.rt:66:9
 get-group7-requires : tie.Need-get-group7-requires
 get-group7-requires c κs = search needs
 
--- src/groups.rt:66:9
 returns-5 : tie.Need-returns-5
 unfolding vgicGet
 returns-5 c = rw (ne-eqb _ _ (c .before .before .before .before .before .if1 .left), ne-eqb _ _ (c .before .before .before .before .if2 .left), ne-eqb _ _ (c .before .before .before .if3 .left), ne-eqb _ _ (c .before .before .if4 .left), eq-eqb _ _ (c .before .if5 .taken)) (c .get-group7 .ensures)
 
--- src/groups.rt:68:5
 told-requires : tie.Need-told-requires
 told-requires c κs = search needs
 
--- src/groups.rt:49:1
 returns-6 : tie.Need-returns-6
 unfolding vgicGet
 returns-6 c = rw (ne-eqb _ _ (c .before .before .before .before .before .if1 .left), ne-eqb _ _ (c .before .before .before .before .if2 .left), ne-eqb _ _ (c .before .before .before .if3 .left), ne-eqb _ _ (c .before .before .if4 .left), ne-eqb _ _ (c .before .if5 .left)) (c .told .ensures)

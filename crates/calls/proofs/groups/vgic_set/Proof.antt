@@ -15,65 +15,51 @@ use Rattle.irqs.proofs.groups.set_group1.Reads as set-group1-reads
 use Rattle.irqs.proofs.groups.set_group5.Reads as set-group5-reads
 use Rattle.irqs.proofs.groups.set_group7.Reads as set-group7-reads
 
--- src/groups.rt:29:9
 set-group0-requires : tie.Need-set-group0-requires
 set-group0-requires c κs = search needs
 
--- src/groups.rt:29:9
 returns : tie.Need-returns
 unfolding vgicSet
 returns c = rw (eq-eqb _ _ (c .before .if1 .taken)) (c .set-group0 .ensures)
 
--- src/groups.rt:32:9
 set-group1-requires : tie.Need-set-group1-requires
 set-group1-requires c κs = search needs
 
--- src/groups.rt:32:9
 returns-2 : tie.Need-returns-2
 unfolding vgicSet
 returns-2 c = rw (ne-eqb _ _ (c .before .before .if1 .left), eq-eqb _ _ (c .before .if2 .taken)) (c .set-group1 .ensures)
 
--- src/groups.rt:35:9
 set-irqs-requires : tie.Need-set-irqs-requires
 set-irqs-requires c κs = search needs
 
--- src/groups.rt:35:9
 returns-3 : tie.Need-returns-3
 unfolding vgicSet
 returns-3 c = rw (ne-eqb _ _ (c .before .before .before .if1 .left), ne-eqb _ _ (c .before .before .if2 .left), eq-eqb _ _ (c .before .if3 .taken)) (c .set-irqs .ensures)
 
--- src/groups.rt:38:9
 set-group4-requires : tie.Need-set-group4-requires
 set-group4-requires c κs = search needs
 
--- src/groups.rt:38:9
 returns-4 : tie.Need-returns-4
 unfolding vgicSet
 returns-4 c = rw (ne-eqb _ _ (c .before .before .before .before .if1 .left), ne-eqb _ _ (c .before .before .before .if2 .left), ne-eqb _ _ (c .before .before .if3 .left), eq-eqb _ _ (c .before .if4 .taken)) (c .set-group4 .ensures)
 
--- src/groups.rt:41:9
 set-group5-requires : tie.Need-set-group5-requires
 set-group5-requires c κs = search needs
 
--- src/groups.rt:41:9
 returns-5 : tie.Need-returns-5
 unfolding vgicSet
 returns-5 c = rw (ne-eqb _ _ (c .before .before .before .before .before .if1 .left), ne-eqb _ _ (c .before .before .before .before .if2 .left), ne-eqb _ _ (c .before .before .before .if3 .left), ne-eqb _ _ (c .before .before .if4 .left), eq-eqb _ _ (c .before .if5 .taken)) (c .set-group5 .ensures)
 
--- src/groups.rt:44:9
 set-group7-requires : tie.Need-set-group7-requires
 set-group7-requires c κs = search needs
 
--- src/groups.rt:44:9
 returns-6 : tie.Need-returns-6
 unfolding vgicSet
 returns-6 c = rw (ne-eqb _ _ (c .before .before .before .before .before .before .if1 .left), ne-eqb _ _ (c .before .before .before .before .before .if2 .left), ne-eqb _ _ (c .before .before .before .before .if3 .left), ne-eqb _ _ (c .before .before .before .if4 .left), ne-eqb _ _ (c .before .before .if5 .left), eq-eqb _ _ (c .before .if6 .taken)) (c .set-group7 .ensures)
 
--- src/groups.rt:46:5
 refused-requires : tie.Need-refused-requires
 refused-requires c κs = search needs
 
--- src/groups.rt:24:1
 returns-7 : tie.Need-returns-7
 unfolding vgicSet
 returns-7 c = rw (ne-eqb _ _ (c .before .before .before .before .before .before .if1 .left), ne-eqb _ _ (c .before .before .before .before .before .if2 .left), ne-eqb _ _ (c .before .before .before .before .if3 .left), ne-eqb _ _ (c .before .before .before .if4 .left), ne-eqb _ _ (c .before .before .if5 .left), ne-eqb _ _ (c .before .if6 .left)) (refusing (c .before .before .before .before .before .before .before .pre .held) (c .refused .ensures))

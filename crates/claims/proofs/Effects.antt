@@ -1,0 +1,74 @@
+-- Demand 2, besides soundness: what set-up, save and restore leave. Assumes nothing.
+use Prim.Native.Nat.{ℕ, _+_, _<_}
+use mathlib.Core.Path.{_≡_, refl, sym, ap, _∙_}
+use mathlib.Core.List.{List}
+use lib.ListN.{length, getD}
+use lib.Dec.{eqb}
+use borrow.Author.Tests.{eqb-true}
+use Rattle.lists.proofs.All.{All}
+use Rattle.words.proofs.Bytes.{Bytes}
+use Rattle.answers.specs.Errno.{listed}
+use Rattle.answers.specs.Answer.{done}
+use Rattle.rules.specs.Rules.{memoryOk}
+use Rattle.mapping.specs.Commands.{tableAreas}
+use Rattle.layout.specs.Layout.{size, decode}
+use Rattle.maplayout.specs.MapLayout.{decodeMap}
+use Rattle.tables.specs.Saved.{savedMemory}
+use Rattle.tables.specs.Restored.{Out, fault, found, restored}
+use Rattle.savedlaws.proofs.Writes.{Holds}
+use Rattle.savedlaws.proofs.Saved.{saved-length, saved-outside}
+use Rattle.kept.proofs.Choice.{choose-by}
+use Rattle.calls.specs.Sound.{sound, Sound}
+use Rattle.calls.specs.Call.{Reply, setUp}
+use Rattle.claims.specs.Step.{step, setup, itsSave, itsRestore}
+use Rattle.claims.specs.Demand3.{Accepted, Ready}
+use Rattle.claims.proofs.Stored.{says}
+use Rattle.claims.proofs.Demand2.{setup-sound}
+use Rattle.claims.proofs.Demand3.{unrefused, saves-is, comes-to, taken-guest}
+
+-- set-up, where accepted, makes sound bytes of any bytes
+pub setup-makes : (width start len : ℕ) (s v : List ℕ) → Bytes s → Accepted (step (setup width start len) s v)
+    → Sound (step (setup width start len) s v .state)
+unfolding setUp listed
+setup-makes width start len s v b =
+    choose-by Made (eqb (length s) size)
+    (λ l. choose-by Made (memoryOk (record { width = width; start = start; length = len }))
+    (λ h _. setup-sound width start len s (eqb-true (length s) size l) b h)
+    (λ _ a. absurd (unrefused 22 refl (sym a))))
+    (λ _ a. absurd (unrefused 14 refl (sym a)))
+  where
+    Made : Reply → Type 0
+    Made r = r .answer ≡ done 0 → Sound (r .lent)
+
+module _ (s mem : List ℕ) (h : Ready s mem) where
+  -- a save leaves the state, and of memory what the definition says
+  pub save-state : step itsSave s mem .state ≡ s
+  save-state = refl
+
+  pub save-memory : step itsSave s mem .lent ≡ savedMemory (decode s) (decodeMap s) mem
+  save-memory = ap (λ (r : Reply). r .lent) (saves-is s mem h)
+
+  pub save-length : length (step itsSave s mem .lent) ≡ length mem
+  save-length =
+      let p = says s (h .sound) in
+      ap length save-memory ∙ saved-length (decode s) (decodeMap s) mem (p .good .rules) (h .opened .placed) (p .mapped) (h .opened .size)
+
+  -- every byte outside the two tables and the mapped devices' ITTs is as before
+  pub save-outside : (i : ℕ) → i < length mem
+      → All (λ a. Holds a (decode s .memory .start + i) → ⊥) (tableAreas (decode s) (decodeMap s .devices))
+      → getD (step itsSave s mem .lent) i 0 ≡ getD mem i 0
+  save-outside i l n =
+      let p = says s (h .sound) in
+      ap (λ (t : List ℕ). getD t i 0) save-memory
+      ∙ saved-outside (decode s) (decodeMap s) mem (p .good .rules) (h .opened .placed) (p .mapped) (h .opened .size) i l n
+
+  -- a restore changes the mapping alone, and no byte of memory
+  pub restore-memory : step itsRestore s mem .lent ≡ mem
+  restore-memory = refl
+
+  pub restore-guest : decode (step itsRestore s mem .state) ≡ decode s
+  restore-guest = by (restored (decode s) mem) refl
+    where
+      by : (o : Out) → restored (decode s) mem ≡ o → decode (step itsRestore s mem .state) ≡ decode s
+      by (fault e) q = ap (λ (r : Reply). decode (r .lent)) (comes-to s mem h (fault e) q)
+      by (found k) q = taken-guest s mem h k q
