@@ -96,7 +96,7 @@ fn write_devices(mem: &mut [u8], at: usize, n: usize, k: mapping::Mapping)
         let following = k.devices[row_after(j, count)];
         let id = d.id as usize;
         write_next(mem, at, i, id, device_word(d, following));
-        i = id + 1;
+        i = id + 1; // past this device's entry
         j += 1;
     }
     write_blanks(mem, at, i, n);
