@@ -17,7 +17,7 @@ use Rattle.irqs.specs.declared.Spot.{Spot}
 use Rattle.irqs.specs.declared.Spot.the-variants.{Own, Shared, Absent}
 use Rattle.irqs.specs.declared.Register.{Register}
 use Rattle.irqs.specs.declared.Register.the-variants.{Latch, Zero, Status, Unknown}
-use Rattle.irqs.specs.Bank.{withLevel, withTrigger, raised, lowered}
+use Rattle.banks.specs.Bank.{withLevel, withTrigger, raised, lowered}
 use Rattle.irqs.specs.Spots.{spotOf, sharedSpot, bankOf, withBank, withVcpu, vcpuOf, triggerWord, levelWord}
 use Rattle.irqs.specs.Irqs.{irqFault, changeIrq, irqSet, irqClear, irqLine, irqTrigger}
 use Rattle.irqs.specs.Registers.{distributorRegister, redistributorRegister, registerFault, distributorWrite, redistributorWrite, offsetOf, affinityOf, setGroup1, group5Fault, setGroup5, group7Fault, levelSpot, setGroup7}

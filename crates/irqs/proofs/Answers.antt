@@ -14,7 +14,7 @@ use Rattle.irqs.specs.Spots.{sharedSpot, spotOf, bankOf, vcpuOf}
 use Rattle.irqs.specs.Irqs.{irqFault, irqPending, irqSet, irqClear, irqLine, irqTrigger}
 use Rattle.irqs.specs.Registers.{distributorRegister, redistributorRegister, accessFault, isKnown, registerFault, distributorRead, redistributorRead, offsetOf, affinityOf, infoOf, vintidOf, setGroup1, getGroup1, group5Fault, setGroup5, getGroup5, group7Fault, levelSpot, setGroup7, getGroup7}
 use Rattle.irqs.proofs.Lists.{choose-by}
-use Rattle.irqs.proofs.Words.{pending-bit}
+use Rattle.banks.proofs.Words.{pending-bit}
 use Rattle.irqs.proofs.Kept.{Tame, bank-fit, vcpu-ok}
 
 pub data Listed : ℕ → Type 0 where

@@ -15,7 +15,7 @@ use Rattle.irqs.specs.declared.Spot.{Spot}
 use Rattle.irqs.specs.declared.Spot.the-variants.{Own, Shared, Absent}
 use Rattle.irqs.specs.declared.Register.{Register}
 use Rattle.irqs.specs.declared.Register.the-variants.{Latch, Zero, Status, Unknown}
-use Rattle.irqs.specs.Bank.{raised, lowered, lined, withTrigger, withLatch, withLevel}
+use Rattle.banks.specs.Bank.{raised, lowered, lined, withTrigger, withLatch, withLevel}
 use Rattle.irqs.specs.Spots.{sharedSpot, spotOf, vcpuAt, withVcpu, ownBank, bankOf, withBank, triggerWord, levelWord, hasAffinity, vcpuOf}
 use Rattle.irqs.specs.Irqs.{irqFault, irqPending, changed, changeIrq, irqSet, irqClear, irqLine, irqTrigger}
 use Rattle.irqs.specs.Registers.{redistributorRegister, accessFault, redistributorRead, redistributorWrite, vcpuStatus, offsetOf, affinityOf, vintidOf, group5Fault, setGroup5, getGroup5, group7Fault, levelSpot, setGroup7, getGroup7}

@@ -13,7 +13,7 @@ use Rattle.guest.specs.Machine.{Machine, Does, refuse, accept, initialised}
 use Rattle.irqs.specs.declared.Spot.{Spot}
 use Rattle.irqs.specs.declared.Spot.the-variants.{Own}
 use Rattle.irqs.specs.declared.Register.{Register}
-use Rattle.irqs.specs.Bank.{withLevel}
+use Rattle.banks.specs.Bank.{withLevel}
 use Rattle.irqs.specs.Spots.{sharedSpot, bankOf, withBank, levelWord, vcpuOf, Stands}
 use Rattle.irqs.specs.Registers.{distributorRegister, redistributorRegister, registerFault, distributorRead, distributorWrite, redistributorRead, redistributorWrite, offsetOf, affinityOf, infoOf, vintidOf, setGroup1, getGroup1, group5Fault, setGroup5, getGroup5, group7Fault, levelSpot, setGroup7, getGroup7}
 use Rattle.irqs.proofs.SpotLaws.{shared-stands}

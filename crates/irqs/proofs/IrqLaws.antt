@@ -12,7 +12,7 @@ use Rattle.guest.specs.declared.Guest.{Guest}
 use Rattle.guest.specs.declared.Outcome.{Outcome}
 use Rattle.guest.specs.Machine.{Machine, Result, view, Held, Does, refuse, accept, initialised}
 use Rattle.irqs.specs.declared.Spot.{Spot}
-use Rattle.irqs.specs.Bank.{pending, lined}
+use Rattle.banks.specs.Bank.{pending, lined}
 use Rattle.irqs.specs.Spots.{spotOf, bankOf, withBank, Shows}
 use Rattle.irqs.specs.Irqs.{irqFault, irqPending, changeIrq, irqLine}
 

@@ -19,12 +19,12 @@ use Rattle.irqs.specs.declared.Spot.{Spot}
 use Rattle.irqs.specs.declared.Spot.the-variants.{Own, Shared, Absent}
 use Rattle.irqs.specs.declared.Register.{Register}
 use Rattle.irqs.specs.declared.Register.the-variants.{Latch, Zero, Status, Unknown}
-use Rattle.irqs.specs.Bank.{rises, raised, lowered, lined, withLatch, withLevel, withTrigger}
+use Rattle.banks.specs.Bank.{rises, raised, lowered, lined, withLatch, withLevel, withTrigger}
 use Rattle.irqs.specs.Spots.{sharedSpot, spotOf, vcpuAt, withVcpu, ownBank, bankOf, withBank, triggerWord, levelWord, vcpuOf}
 use Rattle.irqs.specs.Irqs.{irqFault, changeIrq, irqSet, irqClear, irqLine, irqTrigger}
 use Rattle.irqs.specs.Registers.{distributorRegister, redistributorRegister, accessFault, isKnown, registerFault, withStatus, distributorWrite, redistributorWrite, vcpuStatus, offsetOf, affinityOf, setGroup1, group5Fault, setGroup5, group7Fault, levelSpot, setGroup7}
 use Rattle.irqs.proofs.Lists.{all-getD, all-set, choose-by}
-use Rattle.irqs.proofs.Words.{bit-put, low-put}
+use Rattle.banks.proofs.Words.{bit-put, low-put}
 
 pub record BankOk (b : Bank) : Type 0 where
   pub latch : b .latch < 2 ^ 32

@@ -2,7 +2,6 @@ pub mod Lists
 pub mod SpotLaws
 pub mod IrqLaws
 pub mod GroupLaws
-pub mod Words
 pub mod Kept
 pub mod Answers
 pub mod Apart

@@ -7,7 +7,7 @@ use Rattle.lists.specs.Rows.{choose}
 use Rattle.guest.specs.declared.Bank.{Bank}
 use Rattle.guest.specs.declared.Reading.{Reading}
 use Rattle.guest.specs.Machine.{Machine, Result, refuse, accept, initialised}
-use Rattle.irqs.specs.Bank.{pending, raised, lowered, lined, withTrigger}
+use Rattle.banks.specs.Bank.{pending, raised, lowered, lined, withTrigger}
 use Rattle.irqs.specs.Spots.{spotOf, bankOf, withBank, triggerWord}
 
 -- "-6 before INIT, then -22 for a VCPU not below the VCPUs, an INTID above 1,023"

@@ -1,4 +1,3 @@
-pub mod Bank
 pub mod Spots
 pub mod Irqs
 pub mod Registers

@@ -14,7 +14,7 @@ use Rattle.irqs.specs.declared.Spot.{Spot}
 use Rattle.irqs.specs.declared.Spot.the-variants.{Own, Shared, Absent}
 use Rattle.irqs.specs.declared.Register.{Register}
 use Rattle.irqs.specs.declared.Register.the-variants.{Latch, Zero, Status, Unknown}
-use Rattle.irqs.specs.Bank.{withLatch, withLevel}
+use Rattle.banks.specs.Bank.{withLatch, withLevel}
 use Rattle.irqs.specs.Spots.{sharedSpot, vcpuAt, withVcpu, bankOf, withBank, levelWord, vcpuOf}
 
 -- "0x200+4n is the latch word, written whole; 0x280+4n reads 0 and ignores writes, as 0x200 itself does; n is 0 to 31."

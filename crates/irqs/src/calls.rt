@@ -1,16 +1,16 @@
 // The calls that name a VCPU and an INTID: any number may be named.
 use super::Spot;
-use super::bank::lined;
-use super::bank::lowered;
-use super::bank::pending;
-use super::bank::raised;
-use super::bank::with_trigger;
 use super::spots::accepted;
 use super::spots::bank_of;
 use super::spots::spot_of;
 use super::spots::stored;
 use super::spots::trigger_word;
 use super::spots::vcpu_count;
+use banks::lined;
+use banks::lowered;
+use banks::pending;
+use banks::raised;
+use banks::with_trigger;
 use guest::Guest;
 use guest::Outcome;
 use guest::Reading;

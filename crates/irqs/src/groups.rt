@@ -1,6 +1,5 @@
 // The register groups: 1 (distributor), 5 (redistributor) and 7 (level words), each set and get. A value is 4 bytes wide.
 use super::Spot;
-use super::bank::with_level;
 use super::registers::distributor_read;
 use super::registers::distributor_register;
 use super::registers::distributor_write;
@@ -15,6 +14,7 @@ use super::spots::level_word;
 use super::spots::shared_spot;
 use super::spots::stored;
 use super::spots::vcpu_count;
+use banks::with_level;
 use fields::field_get;
 use guest::Guest;
 use guest::Outcome;

@@ -1,5 +1,4 @@
 // Banks of 32 interrupts: reading pending, changes of a latch, a line or a trigger word, and the registers of groups 1, 5 and 7.
-pub mod bank;
 pub mod calls;
 pub mod groups;
 mod registers;

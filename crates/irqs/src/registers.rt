@@ -1,12 +1,12 @@
 // The registers of a frame: what an offset names, and reads and writes of what is named.
 use super::Register;
 use super::Spot;
-use super::bank::with_latch;
 use super::spots::bank_of;
 use super::spots::shared_spot;
 use super::spots::vcpu_at;
 use super::spots::with_bank;
 use super::spots::with_vcpu;
+use banks::with_latch;
 use guest::Bank;
 use guest::Guest;
 use guest::Vcpu;

@@ -1,7 +1,7 @@
 use Prim.Native.Nat.{ℕ}
 use mathlib.Core.Path.{ap, _∙_}
 use Rattle.guest.specs.Machine.{view}
-use Rattle.irqs.specs.Bank.{lined}
+use Rattle.banks.specs.Bank.{lined}
 use Rattle.irqs.proofs.IrqLaws.{does-refuse, line-refused, line-above, line-sgi, line-done}
 use borrow.Author.Needs.{needs}
 use Rattle.irqs.proofs.calls.irq_line.Statement.{statement}

@@ -1,7 +1,7 @@
 use Prim.Native.Nat.{ℕ, _%_}
 use mathlib.Core.Path.{ap, _∙_}
 use Rattle.guest.specs.Machine.{view}
-use Rattle.irqs.specs.Bank.{raised}
+use Rattle.banks.specs.Bank.{raised}
 use Rattle.irqs.specs.Irqs.{irqSet}
 use Rattle.irqs.proofs.IrqLaws.{does-refuse, change-refused, change-done}
 use borrow.Author.Needs.{needs}

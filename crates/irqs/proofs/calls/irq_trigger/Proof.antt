@@ -2,7 +2,7 @@ use Prim.Native.Nat.{ℕ}
 use mathlib.Core.Path.{ap, _∙_}
 use Rattle.guest.specs.Machine.{view}
 use Rattle.irqs.specs.declared.Spot.{Spot}
-use Rattle.irqs.specs.Bank.{withTrigger}
+use Rattle.banks.specs.Bank.{withTrigger}
 use Rattle.irqs.specs.Spots.{spotOf, triggerWord}
 use Rattle.irqs.specs.Irqs.{irqTrigger}
 use Rattle.irqs.proofs.IrqLaws.{does-refuse, change-refused, change-done}

@@ -1,7 +1,7 @@
 use mathlib.Core.Path.{sym, ap, _∙_}
 use Rattle.guest.specs.Machine.{view}
 use Prim.Native.Nat.{ℕ}
-use Rattle.irqs.specs.Bank.{withLevel}
+use Rattle.banks.specs.Bank.{withLevel}
 use Rattle.irqs.proofs.IrqLaws.{does-refuse}
 use Rattle.irqs.proofs.GroupLaws.{fault7-vintid, level-stands, set7-refused, set7-done}
 use borrow.Author.Needs.{needs}

@@ -1,9 +1,9 @@
 use mathlib.Core.Path.{sym, _∙_}
 use borrow.Author.Tests.{eq-eqb, ne-eqb}
-use Rattle.irqs.specs.Bank.{pending}
+use Rattle.banks.specs.Bank.{pending}
 use borrow.Author.Needs.{needs}
-use Rattle.irqs.proofs.bank.pending.Statement.{statement}
-use Rattle.irqs.proofs.bank.pending.Tie as tie
+use Rattle.banks.proofs.pending.Statement.{statement}
+use Rattle.banks.proofs.pending.Tie as tie
 
 field-get-requires : tie.Need-field-get-requires
 field-get-requires c κs = search needs

@@ -11,7 +11,7 @@ use Rattle.lists.specs.Rows.{choose}
 use Rattle.fields.specs.Field.{putField}
 use Rattle.fields.proofs.Laws.{get-lt}
 use Rattle.guest.specs.declared.Bank.{Bank}
-use Rattle.irqs.specs.Bank.{pending, isEdge, bit}
+use Rattle.banks.specs.Bank.{pending, isEdge, bit}
 
 -- a field put within the low t bits of a word of t bits
 pub put-bound : (w p n v t : ℕ) → w < 2 ^ t → v < 2 ^ n → p + n ≤ t → putField w p n v < 2 ^ t

@@ -1,10 +1,12 @@
-// One bank of 32 interrupts, by value: interrupt i of it is bit i of each word.
+// One bank of 32 interrupts: interrupt i of it is bit i of each word.
+// Four functions take a lent bank and change its latch or its level in place. The rest is by value, and changes a latch or a level
+// through those four: so no caller holds a reference to a bank, and callers need no proof by hand.
 use fields::field_get;
 use fields::field_put;
 use guest::Bank;
 ghost use mathlib.Core.Path.{_≡_};
 ghost use Prim.Native.Nat.{_<_, _≤_};
-ghost use Rattle.irqs.specs.Bank.{
+ghost use Rattle.banks.specs.Bank.{
   withLatch,
   withLevel,
   withTrigger,
@@ -30,25 +32,49 @@ pub fn pending(b: Bank, i: u32) -> u64
     field_get(b.level, i, 1)
 }
 
+// A word of a lent bank, stored in place. The other two words stay.
+pub fn put_latch(b: &mut Bank, word: u64)
+    ensures { λ _. ⌜ now (b .exit) ≡ withLatch word (now (b .entry)) ⌝ }
+{
+    b.latch = word;
+}
+
+pub fn put_level(b: &mut Bank, word: u64)
+    ensures { λ _. ⌜ now (b .exit) ≡ withLevel word (now (b .entry)) ⌝ }
+{
+    b.level = word;
+}
+
+// The latch of interrupt i of a lent bank, raised or lowered in place.
+pub fn raise(b: &mut Bank, i: u32)
+    requires { ⌜ i < 32 ⌝ }
+    ensures { λ _. ⌜ now (b .exit) ≡ raised i (now (b .entry)) ⌝ }
+{
+    b.latch = field_put(b.latch, i, 1, 1);
+}
+
+pub fn lower(b: &mut Bank, i: u32)
+    requires { ⌜ i < 32 ⌝ }
+    ensures { λ _. ⌜ now (b .exit) ≡ lowered i (now (b .entry)) ⌝ }
+{
+    b.latch = field_put(b.latch, i, 1, 0);
+}
+
 // The words of a bank, replaced one at a time.
 pub fn with_latch(b: Bank, word: u64) -> Bank
     ensures { λ r. ⌜ r ≡ withLatch word b ⌝ }
 {
-    Bank {
-        latch: word,
-        level: b.level,
-        trigger: b.trigger,
-    }
+    let mut next = b;
+    put_latch(&mut next, word);
+    next
 }
 
 pub fn with_level(b: Bank, word: u64) -> Bank
     ensures { λ r. ⌜ r ≡ withLevel word b ⌝ }
 {
-    Bank {
-        latch: b.latch,
-        level: word,
-        trigger: b.trigger,
-    }
+    let mut next = b;
+    put_level(&mut next, word);
+    next
 }
 
 pub fn with_trigger(b: Bank, word: u64) -> Bank
@@ -61,18 +87,23 @@ pub fn with_trigger(b: Bank, word: u64) -> Bank
     }
 }
 
+// The bank with the latch of interrupt i raised or lowered.
 pub fn raised(b: Bank, i: u32) -> Bank
     requires { ⌜ i < 32 ⌝ }
     ensures { λ r. ⌜ r ≡ raised i b ⌝ }
 {
-    with_latch(b, field_put(b.latch, i, 1, 1))
+    let mut next = b;
+    raise(&mut next, i);
+    next
 }
 
 pub fn lowered(b: Bank, i: u32) -> Bank
     requires { ⌜ i < 32 ⌝ }
     ensures { λ r. ⌜ r ≡ lowered i b ⌝ }
 {
-    with_latch(b, field_put(b.latch, i, 1, 0))
+    let mut next = b;
+    lower(&mut next, i);
+    next
 }
 
 // Whether a line that goes to level latches: a rise from the stored level, of an edge interrupt.

@@ -1,8 +1,8 @@
 use mathlib.Core.Path.{sym, _∙_}
 use borrow.Author.Tests.{eq-eqb, ne-eqb}
 use borrow.Author.Needs.{needs}
-use Rattle.irqs.proofs.bank.rises.Statement.{statement}
-use Rattle.irqs.proofs.bank.rises.Tie as tie
+use Rattle.banks.proofs.rises.Statement.{statement}
+use Rattle.banks.proofs.rises.Tie as tie
 
 field-get-requires : tie.Need-field-get-requires
 field-get-requires c κs = search needs

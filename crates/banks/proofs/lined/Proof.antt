@@ -1,8 +1,8 @@
 use mathlib.Core.Path.{sym, _∙_}
-use Rattle.irqs.specs.Bank.{lined}
+use Rattle.banks.specs.Bank.{lined}
 use borrow.Author.Needs.{needs}
-use Rattle.irqs.proofs.bank.lined.Statement.{statement}
-use Rattle.irqs.proofs.bank.lined.Tie as tie
+use Rattle.banks.proofs.lined.Statement.{statement}
+use Rattle.banks.proofs.lined.Tie as tie
 
 field-put-requires : tie.Need-field-put-requires
 field-put-requires c κs = search needs

@@ -1,0 +1,6 @@
+pub mod Shapes
+pub mod Lent
+pub mod Store
+pub mod LatchBit
+pub mod Through
+pub mod Words
