@@ -2,13 +2,17 @@
 use Prim.Native.Nat.{ℕ}
 use mathlib.Core.Path.{_≡_, refl, sym, _∙_, subst}
 use mathlib.Core.Bool.{Bool, true, false}
+use mathlib.Core.List.{List}
 use lib.Dec.{eqb}
 use borrow.Author.Tests.{eq-eqb, ne-eqb}
 use Rattle.lists.specs.Rows.{choose}
 use Rattle.guest.specs.declared.Guest.{Guest}
 use Rattle.guest.specs.declared.Reading.{Reading}
 use Rattle.guest.specs.declared.Tables.{Tables}
-use Rattle.guest.specs.Machine.{Machine, Held, view, isRunning, noTables}
+use Rattle.guest.specs.declared.Memory.{Memory}
+use Rattle.guest.specs.declared.Control.{Control}
+use Rattle.guest.specs.Machine.{Machine, Held, view, noTables}
+use Rattle.layout.specs.Layout.{memoryOf, controlOf, tablesOf, decode}
 use Rattle.mapping.specs.declared.Mapping.{Mapping}
 use Rattle.mapping.specs.declared.Remapped.{Remapped}
 use Rattle.mapping.specs.Mapped.{Mapped, MapResult, Maps, Holds, rows, empty}
@@ -43,25 +47,31 @@ module _ {a : Reading} (device event : ℕ) (m : Machine) (k : Mapped) {b : Bool
       subst (λ (t : Bool). a ≡ choose t (lookup device event k) (record { errno = 6; number = 0 })) (sym q ∙ p) e
 
 -- what stands in the way of a save or a restore
-module _ (len : ℕ) (m : Machine) where
-  pub fault-length : (len ≡ m .memory .length → ⊥) → 14 ≡ memoryFault len m
-  unfolding memoryFault
-  fault-length n = rw (ne-eqb len (m .memory .length) n)
+module _ (len : ℕ) (s : List ℕ) (r : Memory) (a : r ≡ memoryOf s) where
+  pub fault-length : (len ≡ r .length → ⊥) → 14 ≡ memoryFault len (decode s)
+  unfolding memoryFault decode
+  fault-length n = rw (← a, ne-eqb len (r .length) n)
 
-  module _ (e : len ≡ m .memory .length) {b : Bool} (p : b ≡ ready m) where
-    gate : {x : ℕ} → x ≡ choose b (choose (isRunning m) 16 0) 6 → x ≡ memoryFault len m
-    unfolding memoryFault
-    gate {x} q =
-        rw (eq-eqb len (m .memory .length) e) (subst (λ (t : Bool). x ≡ choose t (choose (isRunning m) 16 0) 6) p q)
+  module _ (e : len ≡ r .length) (c : Control) (b : c ≡ controlOf s) where
+    pub fault-early : (c .itsinit ≡ 1 → ⊥) → 6 ≡ memoryFault len (decode s)
+    unfolding memoryFault decode
+    fault-early n = rw (← a, ← b, eq-eqb len (r .length) e, ne-eqb (c .itsinit) 1 n)
 
-    pub fault-early : b ≡ false → 6 ≡ memoryFault len m
-    fault-early q = gate (rw q)
+    module _ (i : c .itsinit ≡ 1) (t : Tables) (d : t ≡ tablesOf s) where
+      pub fault-unplaced : (t .devices .set ≡ 1 → ⊥) → 6 ≡ memoryFault len (decode s)
+      unfolding memoryFault decode
+      fault-unplaced n = rw (← a, ← b, ← d, eq-eqb len (r .length) e, eq-eqb (c .itsinit) 1 i, ne-eqb (t .devices .set) 1 n)
 
-    pub fault-running : b ≡ true → m .control .running ≡ 1 → 16 ≡ memoryFault len m
-    fault-running q u = gate (rw (q, eq-eqb (m .control .running) 1 u))
+      module _ (p : t .devices .set ≡ 1) where
+        pub fault-running : c .running ≡ 1 → 16 ≡ memoryFault len (decode s)
+        unfolding memoryFault decode
+        fault-running u =
+            rw (← a, ← b, ← d, eq-eqb len (r .length) e, eq-eqb (c .itsinit) 1 i, eq-eqb (t .devices .set) 1 p, eq-eqb (c .running) 1 u)
 
-    pub fault-none : b ≡ true → (m .control .running ≡ 1 → ⊥) → 0 ≡ memoryFault len m
-    fault-none q u = gate (rw (q, ne-eqb (m .control .running) 1 u))
+        pub fault-none : (c .running ≡ 1 → ⊥) → 0 ≡ memoryFault len (decode s)
+        unfolding memoryFault decode
+        fault-none u =
+            rw (← a, ← b, ← d, eq-eqb len (r .length) e, eq-eqb (c .itsinit) 1 i, eq-eqb (t .devices .set) 1 p, ne-eqb (c .running) 1 u)
 
 -- the guest with other places of its tables
 module _ (g : Guest) (t : Tables) where

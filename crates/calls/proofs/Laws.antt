@@ -1,9 +1,9 @@
 -- The ends of a call on lent bytes, and what the test of the state tells.
 use Prim.Native.Nat.{ℕ, _<_}
 use native.Mathlib.Omega.{arith}
-use mathlib.Core.Path.{_≡_, refl, sym, ap, ap₂, _∙_}
-use mathlib.Core.Bool.{Bool, true, false, _&&_, false≢true}
-use mathlib.Core.List.{List}
+use mathlib.Core.Path.{_≡_, refl, sym, ap, ap₂, _∙_, subst}
+use mathlib.Core.Bool.{Bool, true, false, _&&_}
+use mathlib.Core.List.{List, [], _∷_}
 use lib.IntN.{ℤ}
 use lib.ListN.{length}
 use lib.Seq.{take-all}
@@ -15,62 +15,63 @@ use Rattle.guest.specs.declared.Guest.{Guest}
 use Rattle.guest.specs.declared.Outcome.{Outcome}
 use Rattle.guest.specs.declared.Reading.{Reading}
 use Rattle.guest.specs.Machine.{Machine, Result, Held, Does, view, viewed, fresh}
-use Rattle.rules.specs.Rules.{rules, memoryOk}
+use Rattle.areas.proofs.Tests.{split}
+use Rattle.rules.specs.Rules.{rules, memoryOk, Kept}
 use Rattle.mapping.specs.declared.Mapping.{Mapping}
-use Rattle.mapping.specs.Mapped.{Mapped, rows, empty}
+use Rattle.mapping.specs.Mapped.{Mapped, rows, Within, empty}
 use Rattle.mapping.specs.MapRules.{mapRules, MapKept}
 use Rattle.layout.specs.Layout.{size, decode, stored, countsOk}
 use Rattle.maplayout.specs.MapLayout.{decodeMap, storedMap, mapCountsOk}
 use Rattle.calls.specs.declared.Change.{Change}
 use Rattle.calls.specs.declared.Question.{Question}
-use Rattle.calls.specs.declared.Checked.{Checked}
 use Rattle.calls.specs.declared.BoxOutcome.{BoxOutcome}
 use Rattle.calls.specs.declared.Command.{Command}
 use Rattle.calls.specs.Steps.{changeStep, askStep}
 use Rattle.calls.specs.Commands.{BoxResult, BoxDoes, refuseBox, commandStep, lookupStep}
-use Rattle.calls.specs.Sound.{sound, Checks}
+use Rattle.calls.specs.Sound.{sound}
 use Rattle.calls.specs.Call.{changes, asks, commands, looks, setUp, valueOf, given, Gives, settled, settledBox}
 use Rattle.calls.proofs.Answers.{change-small, command-small}
 
 -- The test of the state.
 
 module _ (s : List ℕ) where
-  pub fails-counts : countsOk s ≡ false → sound s ≡ false
+  pub fails-counts : countsOk s ≡ false → false ≡ sound s
   unfolding sound
   fails-counts a = rw a
 
-  pub fails-map-counts : countsOk s ≡ true → mapCountsOk s ≡ false → sound s ≡ false
+  module _ (a : countsOk s ≡ true) where
+    pub fails-map-counts : mapCountsOk s ≡ false → false ≡ sound s
+    unfolding sound
+    fails-map-counts b = rw (a, b)
+
+    module _ (b : mapCountsOk s ≡ true) where
+      pub fails-rules : rules (decode s) ≡ false → false ≡ sound s
+      unfolding sound
+      fails-rules c = rw (a, b, c)
+
+      pub decides : {t : Bool} → rules (decode s) ≡ true → t ≡ mapRules (decode s) (decodeMap s) → t ≡ sound s
+      unfolding sound
+      decides c d = rw (a, b, c) d
+
+-- what sound bytes keep, and what is loaded from them
+pub record Parts (s : List ℕ) : Type 0 where
+  pub counts : countsOk s ≡ true
+  pub map-counts : mapCountsOk s ≡ true
+  pub guest : rules (decode s) ≡ true
+  pub mapping : mapRules (decode s) (decodeMap s) ≡ true
+
+module _ (s : List ℕ) (u : sound s ≡ true) where
+  pub parts : Parts s
   unfolding sound
-  fails-map-counts a b = rw (a, b)
+  parts =
+      let p = split (countsOk s) (mapCountsOk s ∷ rules (decode s) ∷ mapRules (decode s) (decodeMap s) ∷ []) u in
+      record { counts = p .0; map-counts = p .1 .0; guest = p .1 .1 .0; mapping = p .1 .1 .1 }
 
-  pub fails-rules : countsOk s ≡ true → mapCountsOk s ≡ true → rules (decode s) ≡ false → sound s ≡ false
-  unfolding sound
-  fails-rules a b c = rw (a, b, c)
+  pub guest-kept : (g : Guest) → (view g ≡ decode s) × Held g → Kept g
+  guest-kept g v = record { held = v .1; rules = ap rules (v .0) ∙ parts .guest }
 
-  pub fails-map-rules : countsOk s ≡ true → mapCountsOk s ≡ true → rules (decode s) ≡ true
-      → mapRules (decode s) (decodeMap s) ≡ false → sound s ≡ false
-  unfolding sound
-  fails-map-rules a b c d = rw (a, b, c, d)
-
-  pub passes : countsOk s ≡ true → mapCountsOk s ≡ true → rules (decode s) ≡ true
-      → mapRules (decode s) (decodeMap s) ≡ true → sound s ≡ true
-  unfolding sound
-  passes a b c d = rw (a, b, c, d)
-
-  pub not-sound : (k : Checked) → k .sound ≡ false → sound s ≡ false → Checks s k
-  not-sound k p q = record { is = p ∙ sym q; stands = λ t. absurd (false≢true (sym p ∙ t)) }
-
-  pub is-sound : (g : Guest) (k : Mapping) → sound s ≡ true → view g ≡ decode s → rows k ≡ decodeMap s → MapKept g k
-      → Checks s (record { sound = true; guest = g; mapping = k })
-  is-sound g k q v w h = record { is = sym q; stands = λ t. record { guest = v; mapping = w; kept = h } }
-
-  -- what the rules say of the loaded guest and mapping they say of the bytes
-  pub of-guest : (g : Guest) (b : Bool) (t : Bool) → view g ≡ decode s → b ≡ rules (view g) → b ≡ t → rules (decode s) ≡ t
-  of-guest g b t v r e = ap rules (sym v) ∙ sym r ∙ e
-
-  pub of-mapping : (g : Guest) (k : Mapping) (b : Bool) (t : Bool) → view g ≡ decode s → rows k ≡ decodeMap s
-      → b ≡ mapRules (view g) (rows k) → b ≡ t → mapRules (decode s) (decodeMap s) ≡ t
-  of-mapping g k b t v w r e = ap₂ mapRules (sym v) (sym w) ∙ sym r ∙ e
+  pub box-kept : (g : Guest) (k : Mapping) → (view g ≡ decode s) × Held g → (rows k ≡ decodeMap s) × Within k → MapKept g k
+  box-kept g k v w = record { guest = guest-kept g v; within = w .1; rules = ap₂ mapRules (v .0) (w .0) ∙ parts .mapping }
 
 -- A changing call.
 
@@ -79,30 +80,24 @@ module _ (c : Change) (s : List ℕ) where
   unfolding changes
   short h = let e = ne-eqb (length s) size h in record { number = rw e; left = rw e }
 
-  module _ (h : length s ≡ size) (k : Checked) (x : Checks s k) where
-    pub unsound : k .sound ≡ false → Gives (changes c s) (refusal 22) s
+  module _ (h : length s ≡ size) where
+    pub unsound : sound s ≡ false → Gives (changes c s) (refusal 22) s
     unfolding changes
-    unsound u =
-        let l = eq-eqb (length s) size h in
-        let q : sound s ≡ false = sym (x .is) ∙ u in
-        record { number = rw (l, q); left = rw (l, q) }
+    unsound q = let l = eq-eqb (length s) size h in record { number = rw (l, q); left = rw (l, q) }
 
-    module _ (u : k .sound ≡ true) (o : Outcome) (d : Does o (changeStep c (view (k .guest)))) where
+    module _ (q : sound s ≡ true) (g : Guest) (v : view g ≡ decode s) (o : Outcome) (d : Does o (changeStep c (view g))) where
       result : viewed o ≡ changeStep c (decode s)
-      result = d .is ∙ ap (changeStep c) (x .stands u .guest)
+      result = d .is ∙ ap (changeStep c) v
 
       called : changes c s ≡ settled s (viewed o)
       unfolding changes
-      called =
-          let l = eq-eqb (length s) size h in
-          let q : sound s ≡ true = sym (x .is) ∙ u in
-          rw (l, q) (ap (settled s) (sym result))
+      called = let l = eq-eqb (length s) size h in rw (l, q) (ap (settled s) (sym result))
 
       pub errno-small : o .errno < 4096
       errno-small = rw (ap (λ (r : Result). r .errno) result) (change-small (decode s) c)
 
       pub refuses : (r : ℤ) → (o .errno ≡ 0 → ⊥) → r ≡ refusal (o .errno) → Gives (changes c s) r s
-      refuses r n q = let f = ne-eqb (o .errno) 0 n in record { number = rw (called, f) q; left = rw (called, f) }
+      refuses r n p = let f = ne-eqb (o .errno) 0 n in record { number = rw (called, f) p; left = rw (called, f) }
 
       pub settles : (t : List ℕ) → o .errno ≡ 0 → t ≡ stored (view (o .guest)) s → Gives (changes c s) (done 0) t
       settles t n w = let f = eq-eqb (o .errno) 0 n in record { number = rw (called, f); left = rw (called, f) w }
@@ -114,20 +109,14 @@ module _ (q : Question) (s : List ℕ) where
   unfolding asks
   ask-short r h e = let l = ne-eqb (length s) size h in rw l e
 
-  module _ (h : length s ≡ size) (k : Checked) (x : Checks s k) where
-    pub ask-unsound : (r : Reading) → k .sound ≡ false → r ≡ record { errno = 22; number = 0 } → r ≡ asks q s
+  module _ (h : length s ≡ size) where
+    pub ask-unsound : (r : Reading) → sound s ≡ false → r ≡ record { errno = 22; number = 0 } → r ≡ asks q s
     unfolding asks
-    ask-unsound r u e =
-        let l = eq-eqb (length s) size h in
-        let t : sound s ≡ false = sym (x .is) ∙ u in
-        rw (l, t) e
+    ask-unsound r t e = let l = eq-eqb (length s) size h in rw (l, t) e
 
-    pub ask-answers : (r : Reading) → k .sound ≡ true → r ≡ askStep q (view (k .guest)) → r ≡ asks q s
+    pub ask-answers : (r : Reading) → sound s ≡ true → (g : Guest) → view g ≡ decode s → r ≡ askStep q (view g) → r ≡ asks q s
     unfolding asks
-    ask-answers r u e =
-        let l = eq-eqb (length s) size h in
-        let t : sound s ≡ true = sym (x .is) ∙ u in
-        rw (l, t) (e ∙ ap (askStep q) (x .stands u .guest))
+    ask-answers r t g v e = let l = eq-eqb (length s) size h in rw (l, t) (e ∙ ap (askStep q) v)
 
 -- An ITS command.
 
@@ -145,38 +134,36 @@ module _ (c : Command) (s : List ℕ) where
   unfolding commands
   command-short h = let e = ne-eqb (length s) size h in record { number = rw e; left = rw e }
 
-  module _ (h : length s ≡ size) (k : Checked) (x : Checks s k) where
-    pub command-unsound : k .sound ≡ false → Gives (commands c s) (refusal 22) s
+  module _ (h : length s ≡ size) where
+    pub command-unsound : sound s ≡ false → Gives (commands c s) (refusal 22) s
     unfolding commands
-    command-unsound u =
-        let l = eq-eqb (length s) size h in
-        let q : sound s ≡ false = sym (x .is) ∙ u in
-        record { number = rw (l, q); left = rw (l, q) }
+    command-unsound q = let l = eq-eqb (length s) size h in record { number = rw (l, q); left = rw (l, q) }
 
-    module _ (u : k .sound ≡ true) (o : BoxOutcome) (d : BoxDoes o (commandStep c (view (k .guest)) (rows (k .mapping)))) where
-      box-result : boxed o ≡ commandStep c (decode s) (decodeMap s)
-      box-result = box-is o _ d ∙ ap₂ (commandStep c) (x .stands u .guest) (x .stands u .mapping)
-
+    module _ (q : sound s ≡ true) (o : BoxOutcome) (d : BoxDoes o (commandStep c (decode s) (decodeMap s))) where
       box-called : commands c s ≡ settledBox s (boxed o)
       unfolding commands
-      box-called =
-          let l = eq-eqb (length s) size h in
-          let q : sound s ≡ true = sym (x .is) ∙ u in
-          rw (l, q) (ap (settledBox s) (sym box-result))
+      box-called = let l = eq-eqb (length s) size h in rw (l, q) (ap (settledBox s) (sym (box-is o _ d)))
 
       pub command-errno : o .errno < 4096
-      command-errno = rw (ap (λ (r : BoxResult). r .errno) box-result) (command-small (decode s) (decodeMap s) c)
+      command-errno = rw (d .errno) (command-small (decode s) (decodeMap s) c)
 
       pub command-refuses : (r : ℤ) → (o .errno ≡ 0 → ⊥) → r ≡ refusal (o .errno) → Gives (commands c s) r s
-      command-refuses r n q =
+      command-refuses r n p =
           let f = ne-eqb (o .errno) 0 n in
-          record { number = rw (box-called, f) q; left = rw (box-called, f) }
+          record { number = rw (box-called, f) p; left = rw (box-called, f) }
 
-      pub command-settles : (t w : List ℕ) → o .errno ≡ 0 → t ≡ stored (view (o .guest)) s → w ≡ storedMap (rows (o .mapping)) t
-          → Gives (commands c s) (done 0) w
-      command-settles t w n a b =
-          let f = eq-eqb (o .errno) 0 n in
-          record { number = rw (box-called, f); left = rw (box-called, f) (b ∙ ap (storedMap (rows (o .mapping))) a) }
+      pub command-settles : (x : List ℕ) → o .errno ≡ 0 → x ≡ storedMap (rows (o .mapping)) (stored (view (o .guest)) s)
+          → Gives (commands c s) (done 0) x
+      command-settles x n a = let f = eq-eqb (o .errno) 0 n in record { number = rw (box-called, f); left = rw (box-called, f) a }
+
+-- a command on what the bytes stand for, and its result stored
+pub performed-is : (c : Command) (s : List ℕ) (g : Guest) (k : Mapping) (o : BoxOutcome) → view g ≡ decode s → rows k ≡ decodeMap s
+    → BoxDoes o (commandStep c (view g) (rows k)) → BoxDoes o (commandStep c (decode s) (decodeMap s))
+performed-is c s g k o v w d = subst (λ (m : Machine). BoxDoes o (commandStep c m (decodeMap s))) v (subst (λ (x : Mapped). BoxDoes o (commandStep c (view g) x)) w d)
+
+pub stored-both : (o : BoxOutcome) (s t x : List ℕ) → t ≡ stored (view (o .guest)) s → x ≡ storedMap (rows (o .mapping)) t
+    → x ≡ storedMap (rows (o .mapping)) (stored (view (o .guest)) s)
+stored-both o s t x a b = b ∙ ap (storedMap (rows (o .mapping))) a
 
 -- Lookup.
 
@@ -185,20 +172,15 @@ module _ (device event : ℕ) (s : List ℕ) where
   unfolding looks
   look-short r h e = let l = ne-eqb (length s) size h in rw l e
 
-  module _ (h : length s ≡ size) (k : Checked) (x : Checks s k) where
-    pub look-unsound : (r : Reading) → k .sound ≡ false → r ≡ record { errno = 22; number = 0 } → r ≡ looks device event s
+  module _ (h : length s ≡ size) where
+    pub look-unsound : (r : Reading) → sound s ≡ false → r ≡ record { errno = 22; number = 0 } → r ≡ looks device event s
     unfolding looks
-    look-unsound r u e =
-        let l = eq-eqb (length s) size h in
-        let t : sound s ≡ false = sym (x .is) ∙ u in
-        rw (l, t) e
+    look-unsound r t e = let l = eq-eqb (length s) size h in rw (l, t) e
 
-    pub look-answers : (r : Reading) → k .sound ≡ true → r ≡ lookupStep device event (view (k .guest)) (rows (k .mapping)) → r ≡ looks device event s
+    pub look-answers : (r : Reading) → sound s ≡ true → (g : Guest) → view g ≡ decode s → (k : Mapping) → rows k ≡ decodeMap s
+        → r ≡ lookupStep device event (view g) (rows k) → r ≡ looks device event s
     unfolding looks
-    look-answers r u e =
-        let l = eq-eqb (length s) size h in
-        let t : sound s ≡ true = sym (x .is) ∙ u in
-        rw (l, t) (e ∙ ap₂ (lookupStep device event) (x .stands u .guest) (x .stands u .mapping))
+    look-answers r t g v k w e = let l = eq-eqb (length s) size h in rw (l, t) (e ∙ ap₂ (lookupStep device event) v w)
 
 -- A get, and the number of a lent value.
 

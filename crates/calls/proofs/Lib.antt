@@ -2,4 +2,5 @@ pub mod Answers
 pub mod Boxes
 pub mod Laws
 pub mod Saving
+pub mod Copied
 pub mod Restoring

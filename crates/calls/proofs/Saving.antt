@@ -1,8 +1,8 @@
--- Save and restore on lent bytes.
-use Prim.Native.Nat.{ℕ, zero, suc, _<_, _/_}
+-- Save on lent bytes, and what stands in the way of a save or a restore.
+use Prim.Native.Nat.{ℕ, _<_}
 use native.Mathlib.Omega.{arith}
-use mathlib.Core.Path.{_≡_, refl, sym, ap, ap₂, _∙_}
-use mathlib.Core.Bool.{Bool, true, false, _&&_}
+use mathlib.Core.Path.{_≡_, refl}
+use mathlib.Core.Bool.{Bool, true, false}
 use mathlib.Core.List.{List, [], _∷_}
 use lib.IntN.{ℤ}
 use lib.ListN.{length}
@@ -11,15 +11,15 @@ use borrow.Author.Tests.{eq-eqb, ne-eqb, eqb-true}
 use Rattle.lists.specs.Rows.{choose}
 use Rattle.areas.proofs.Tests.{split}
 use Rattle.answers.specs.Answer.{refusal, done}
-use Rattle.guest.specs.Machine.{Machine, view, isRunning}
-use Rattle.mapping.specs.Mapped.{Mapped, rows, empty}
+use Rattle.guest.specs.Machine.{Machine, isRunning}
+use Rattle.mapping.specs.Mapped.{empty}
 use Rattle.mapping.specs.MapRules.{isPlaced}
 use Rattle.layout.specs.Layout.{size, decode}
+use Rattle.maplayout.specs.MapLayout.{decodeMap}
 use Rattle.irqkept.proofs.Answers.{listed-small}
 use Rattle.tables.specs.Saved.{savedMemory}
-use Rattle.calls.specs.declared.Checked.{Checked}
 use Rattle.calls.specs.Commands.{itsInitialised, ready, memoryFault}
-use Rattle.calls.specs.Sound.{sound, Checks}
+use Rattle.calls.specs.Sound.{sound}
 use Rattle.calls.specs.Call.{saves, Gives}
 use Rattle.calls.proofs.Answers.{memory-known}
 
@@ -51,31 +51,22 @@ module _ (s mem : List ℕ) where
   unfolding saves
   save-short h = let e = ne-eqb (length s) size h in record { number = rw e; left = rw e }
 
-  module _ (h : length s ≡ size) (k : Checked) (x : Checks s k) where
-    pub save-unsound : k .sound ≡ false → Gives (saves s mem) (refusal 22) mem
+  module _ (h : length s ≡ size) where
+    pub save-unsound : sound s ≡ false → Gives (saves s mem) (refusal 22) mem
     unfolding saves
-    save-unsound u =
-        let l = eq-eqb (length s) size h in
-        let q : sound s ≡ false = sym (x .is) ∙ u in
-        record { number = rw (l, q); left = rw (l, q) }
+    save-unsound q = let l = eq-eqb (length s) size h in record { number = rw (l, q); left = rw (l, q) }
 
-    module _ (u : k .sound ≡ true) {e : ℕ} (f : e ≡ memoryFault (length mem) (view (k .guest))) where
-      pub fault-is : e ≡ memoryFault (length mem) (decode s)
-      fault-is = f ∙ ap (memoryFault (length mem)) (x .stands u .guest)
-
+    module _ (q : sound s ≡ true) {e : ℕ} (f : e ≡ memoryFault (length mem) (decode s)) where
       pub save-refuses : (r : ℤ) → (e ≡ 0 → ⊥) → r ≡ refusal e → Gives (saves s mem) r mem
       unfolding saves
       save-refuses r n p =
           let l = eq-eqb (length s) size h in
-          let q : sound s ≡ true = sym (x .is) ∙ u in
           let z = ne-eqb e 0 n in
-          record { number = rw (l, q, ← fault-is, z) p; left = rw (l, q, ← fault-is, z) }
+          record { number = rw (l, q, ← f, z) p; left = rw (l, q, ← f, z) }
 
-      pub save-done : (w : List ℕ) → e ≡ 0 → w ≡ savedMemory (view (k .guest)) (rows (k .mapping)) mem → Gives (saves s mem) (done 0) w
+      pub save-done : (w : List ℕ) → e ≡ 0 → w ≡ savedMemory (decode s) (decodeMap s) mem → Gives (saves s mem) (done 0) w
       unfolding saves
       save-done w z p =
           let l = eq-eqb (length s) size h in
-          let q : sound s ≡ true = sym (x .is) ∙ u in
           let y = eq-eqb e 0 z in
-          let v = ap₂ (λ (m : Machine) (t : Mapped). savedMemory m t mem) (x .stands u .guest) (x .stands u .mapping) in
-          record { number = rw (l, q, ← fault-is, y); left = rw (l, q, ← fault-is, y) (p ∙ v) }
+          record { number = rw (l, q, ← f, y); left = rw (l, q, ← f, y) p }

@@ -36,10 +36,11 @@ pub record Reply : Type 0 where
 abbrev pub refused : List ℕ → ℕ → Reply
 refused s e = record { answer = refusal e; lent = s }
 
--- "a wrong length is -14, bytes that break this page's rules -22, before any other check"; "Success is the number asked for, else 0."
+-- "Success is the number asked for, else 0."
 abbrev pub settled : List ℕ → Result → Reply
 settled s r = choose (eqb (r .errno) 0) (record { answer = done 0; lent = stored (r .next) s }) (refused s (r .errno))
 
+-- "a wrong length is -14, bytes that break this page's rules -22, before any other check": so too in each kind of call below
 unfoldable pub changes : Change → List ℕ → Reply
 changes c s =
     choose (eqb (length s) size)

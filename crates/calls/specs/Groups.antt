@@ -1,4 +1,4 @@
--- Attributes by group. "Order: unknown name; width of value or memory; not ready; running; then the order each section gives."
+-- Attributes by group. "Order: unknown name; width of value or memory; not ready ..; running ..; then the order each section gives."
 -- Groups and attributes are compared whole.
 use Prim.Native.Nat.{ℕ}
 use mathlib.Core.Bool.{Bool, _||_}
@@ -26,7 +26,7 @@ vgicSet group attribute width value m =
     (choose (eqb group 7) (setGroup7 attribute width value m)
     (refuse m 6))))))
 
--- "Group 4 has no get (-6)."
+-- "Group 4 .. has no get (-6)."
 unfoldable pub vgicGet : ℕ → ℕ → ℕ → ℕ → Machine → Reading
 vgicGet group attribute width value m =
     choose (eqb group 0) (getGroup0 attribute width value m)

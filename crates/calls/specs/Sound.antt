@@ -5,13 +5,10 @@ use mathlib.Core.Bool.{Bool, true, _&&_}
 use mathlib.Core.List.{List}
 use lib.ListN.{length}
 use Rattle.words.proofs.Bytes.{Bytes}
-use Rattle.guest.specs.Machine.{view}
 use Rattle.rules.specs.Rules.{rules}
-use Rattle.mapping.specs.Mapped.{rows}
-use Rattle.mapping.specs.MapRules.{mapRules, MapKept}
+use Rattle.mapping.specs.MapRules.{mapRules}
 use Rattle.layout.specs.Layout.{size, decode, countsOk}
 use Rattle.maplayout.specs.MapLayout.{decodeMap, mapCountsOk}
-use Rattle.calls.specs.declared.Checked.{Checked}
 
 -- the test that every call makes first, of bytes of the right length: the counts fit, the guest and its mapping keep every rule
 unfoldable pub sound : List ℕ → Bool
@@ -22,14 +19,3 @@ pub record Sound (s : List ℕ) : Type 0 where
   pub bytes : Bytes s
   pub long : length s ≡ size
   pub rules : sound s ≡ true
-
--- what sound bytes were loaded to
-pub record Stands (s : List ℕ) (c : Checked) : Type 0 where
-  pub guest : view (c .guest) ≡ decode s
-  pub mapping : rows (c .mapping) ≡ decodeMap s
-  pub kept : MapKept (c .guest) (c .mapping)
-
--- what the code's test hands back: its answer and, where the bytes are sound, what they stand for
-pub record Checks (s : List ℕ) (c : Checked) : Type 0 where
-  pub is : c .sound ≡ sound s
-  pub stands : c .sound ≡ true → Stands s c

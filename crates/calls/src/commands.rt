@@ -8,7 +8,9 @@ use mapping::Mapping;
 use mapping::Remapped;
 use super::BoxOutcome;
 ghost use mathlib.Core.Path.{_≡_};
+ghost use lib.ListN.{length};
 ghost use Rattle.guest.specs.Machine.{view, Held};
+ghost use Rattle.layout.specs.Layout.{size, decode};
 ghost use Rattle.mapping.specs.Mapped.{rows, Within};
 ghost use Rattle.mapping.specs.MapRules.{MapKept};
 ghost use Rattle.mapping.specs.Commands.{mapDevice, unmapDevice, mapCollection, unmapCollection, mapEvent, discard, move};
@@ -198,16 +200,23 @@ pub fn look_up(g: Guest, k: Mapping, device: u64, event: u64) -> Reading
 }
 
 // The fault of a save or a restore that lends so many bytes of memory; 0 for none.
-pub fn memory_fault(g: Guest, len: u64) -> u64
-    ensures { λ r. ⌜ r ≡ memoryFault len (view g) ⌝ }
+pub fn memory_fault(s: &[u8], len: u64) -> u64
+    requires { ⌜ length (now s) ≡ size ⌝ }
+    ensures { λ r. ⌜ r ≡ memoryFault len (decode (now (s .entry))) ⌝ }
 {
-    if len != g.memory.length {
+    let memory = layout::load_memory(s);
+    if len != memory.length {
         return Errno::EFAULT;
     }
-    if !is_ready(g) {
+    let control = layout::load_control(s);
+    if control.itsinit != 1 {
         return Errno::ENXIO;
     }
-    if g.control.running == 1 {
+    let devices = layout::load_tables(s).devices;
+    if devices.set != 1 {
+        return Errno::ENXIO;
+    }
+    if control.running == 1 {
         return Errno::EBUSY;
     }
     0

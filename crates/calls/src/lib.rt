@@ -7,14 +7,15 @@ use guest::Reading;
 use mapping::Mapping;
 ghost use mathlib.Core.Path.{_≡_};
 ghost use lib.ListN.{length};
-ghost use Rattle.guest.specs.Machine.{view, Does};
+ghost use mathlib.Core.Bool.{true};
+ghost use Rattle.guest.specs.Machine.{view, Held, Does};
 ghost use Rattle.rules.specs.Rules.{Kept};
-ghost use Rattle.layout.specs.Layout.{size};
+ghost use Rattle.layout.specs.Layout.{size, decode, stored};
+ghost use Rattle.maplayout.specs.MapLayout.{decodeMap, storedMap};
 ghost use Rattle.calls.specs.Steps.{changeStep, askStep};
-ghost use Rattle.calls.specs.Sound.{Checks};
-ghost use mathlib.Core.Bool.{false};
+ghost use Rattle.calls.specs.Sound.{sound};
 ghost use Prim.Native.Nat.{_<_, _^_};
-ghost use Rattle.mapping.specs.Mapped.{rows};
+ghost use Rattle.mapping.specs.Mapped.{rows, Within};
 ghost use Rattle.mapping.specs.MapRules.{MapKept};
 ghost use Rattle.calls.specs.Commands.{BoxDoes, commandStep};
 ghost use Rattle.calls.specs.Call.{changes, asks, setUp, valueOf, given, answered, Gives};
@@ -55,13 +56,6 @@ pub enum Command {
     Reset(u64),
 }
 
-// Whether bytes are sound, and the guest and the mapping that they stand for if they are.
-pub struct Checked {
-    pub sound: bool,
-    pub guest: Guest,
-    pub mapping: Mapping,
-}
-
 // What a command comes to: an errno, 0 for none, and the next guest and mapping.
 pub struct BoxOutcome {
     pub errno: u64,
@@ -99,40 +93,22 @@ pub fn answer(g: Guest, q: Question) -> Reading
     }
 }
 
-fn unsound() -> Checked
-    ensures { λ r. ⌜ r .sound ≡ false ⌝ }
-{
-    Checked {
-        sound: false,
-        guest: Guest::new(0, 0, 0),
-        mapping: Mapping::new(),
-    }
-}
-
-// The test that every call makes first: the counts, before anything is loaded, then the guest's rules and the mapping's.
-pub fn examine(s: &[u8]) -> Checked
+// The test that every call makes first, of bytes of the right length: the counts, before a row is read, then the guest's rules and
+// the mapping's. Rows are read where they lie.
+pub fn is_sound(s: &[u8]) -> bool
     requires { ⌜ length (now s) ≡ size ⌝ }
-    ensures { λ r. ⌜ Checks (now (s .entry)) r ⌝ }
+    ensures { λ r. ⌜ r ≡ sound (now (s .entry)) ⌝ }
 {
     if !layout::counts_ok(s) {
-        return unsound();
+        return false;
     }
     if !maplayout::map_counts_ok(s) {
-        return unsound();
+        return false;
     }
-    let g = layout::load_guest(s);
-    if !keeps::keeps_rules(g) {
-        return unsound();
+    if !keeps::keeps_rules(s) {
+        return false;
     }
-    let k = maplayout::load_mapping(s);
-    if !mapcheck::keeps_map_rules(g, k) {
-        return unsound();
-    }
-    Checked {
-        sound: true,
-        guest: g,
-        mapping: k,
-    }
+    mapcheck::keeps_map_rules(s)
 }
 
 pub fn apply(state: &mut [u8], c: Change) -> i64
@@ -141,12 +117,10 @@ pub fn apply(state: &mut [u8], c: Change) -> i64
     if state.len() != 11400 {
         return -14;
     }
-    let k = examine(state);
-    if !k.sound {
+    if !is_sound(state) {
         return -22;
     }
-    let g = k.guest;
-    let o = step(g, c);
+    let o = step(layout::load_guest(state), c);
     let errno = o.errno;
     if errno != 0 {
         return answers::refuse(errno);
@@ -162,12 +136,10 @@ pub fn ask(state: &[u8], q: Question) -> Reading
     if state.len() != 11400 {
         return guest::told(14, 0);
     }
-    let k = examine(state);
-    if !k.sound {
+    if !is_sound(state) {
         return guest::told(22, 0);
     }
-    let g = k.guest;
-    answer(g, q)
+    answer(layout::load_guest(state), q)
 }
 
 // Makes a fresh guest of any bytes of the right length.
@@ -244,27 +216,41 @@ pub fn perform(g: Guest, k: Mapping, c: Command) -> BoxOutcome
     }
 }
 
+// An ITS command on the guest and the mapping that sound bytes stand for.
+fn performed(s: &[u8], c: Command) -> BoxOutcome
+    requires { ⌜ (length (now s) ≡ size) × (sound (now s) ≡ true) ⌝ }
+    ensures { λ r. ⌜ BoxDoes r (commandStep c (decode (now (s .entry))) (decodeMap (now (s .entry)))) ⌝ }
+{
+    perform(layout::load_guest(s), maplayout::load_mapping(s), c)
+}
+
+// The next guest and mapping in place of those that the bytes held.
+fn store_box(s: &mut [u8], o: BoxOutcome)
+    requires { ⌜ (length (now s) ≡ size) × (Held (o .guest)) × (Within (o .mapping)) ⌝ }
+    ensures { λ _. ⌜ now (s .exit) ≡ storedMap (rows (o .mapping)) (stored (view (o .guest)) (now (s .entry))) ⌝ }
+{
+    let next = o.guest;
+    let rows = o.mapping;
+    layout::store_guest(s, next);
+    maplayout::store_mapping(s, rows);
+}
+
+// The work is in two functions of their own, so that what the first needs of the stack is free again for the second.
 pub fn run_command(state: &mut [u8], c: Command) -> i64
     ensures { λ r. ⌜ Gives (commands c (now (state .entry))) r (now (state .exit)) ⌝ }
 {
     if state.len() != 11400 {
         return -14;
     }
-    let k = examine(state);
-    if !k.sound {
+    if !is_sound(state) {
         return -22;
     }
-    let g = k.guest;
-    let m = k.mapping;
-    let o = perform(g, m, c);
+    let o = performed(state, c);
     let errno = o.errno;
     if errno != 0 {
         return answers::refuse(errno);
     }
-    let next = o.guest;
-    let rows = o.mapping;
-    layout::store_guest(state, next);
-    maplayout::store_mapping(state, rows);
+    store_box(state, o);
     0
 }
 
@@ -274,13 +260,10 @@ pub fn look(state: &[u8], device: u64, event: u64) -> Reading
     if state.len() != 11400 {
         return guest::told(14, 0);
     }
-    let k = examine(state);
-    if !k.sound {
+    if !is_sound(state) {
         return guest::told(22, 0);
     }
-    let g = k.guest;
-    let m = k.mapping;
-    commands::look_up(g, m, device, event)
+    commands::look_up(layout::load_guest(state), maplayout::load_mapping(state), device, event)
 }
 
 // Writes the tables into the lent memory; the state stays.
@@ -290,44 +273,53 @@ pub fn save(state: &[u8], mem: &mut [u8]) -> i64
     if state.len() != 11400 {
         return -14;
     }
-    let k = examine(state);
-    if !k.sound {
+    if !is_sound(state) {
         return -22;
     }
-    let g = k.guest;
-    let m = k.mapping;
     let len = mem.len() as u64;
-    let fault = commands::memory_fault(g, len);
+    let fault = commands::memory_fault(state, len);
     if fault != 0 {
         return answers::refuse(fault);
     }
-    save::save_tables(g, m, mem);
+    save::save_tables(state, mem);
     0
 }
 
-// Reads the mapping from the tables in the lent memory, which stays; nothing else of the state changes.
+// Bytes copied over others of the same length.
+fn copy(to: &mut [u8], from: &[u8])
+    requires { ⌜ length (now to) ≡ length (now from) ⌝ }
+    ensures { λ _. ⌜ now (to .exit) ≡ now (from .entry) ⌝ }
+{
+    let n = from.len();
+    let mut i: usize = 0;
+    while i < n {
+        to[i] = from[i];
+        i += 1;
+    }
+}
+
+// Reads the mapping from the tables in the lent memory, which stays, into a copy of the state: a restore that is refused half way
+// leaves the state as it was. Nothing but the mapping changes.
 pub fn restore(state: &mut [u8], mem: &[u8]) -> i64
     ensures { λ r. ⌜ Gives (restores (now (state .entry)) (now (mem .entry))) r (now (state .exit)) ⌝ }
 {
     if state.len() != 11400 {
         return -14;
     }
-    let k = examine(state);
-    if !k.sound {
+    if !is_sound(state) {
         return -22;
     }
-    let g = k.guest;
     let len = mem.len() as u64;
-    let fault = commands::memory_fault(g, len);
+    let fault = commands::memory_fault(state, len);
     if fault != 0 {
         return answers::refuse(fault);
     }
-    let o = restore::restore_tables(g, mem);
-    let errno = o.errno;
+    let mut next = [0; 11400];
+    copy(&mut next, state);
+    let errno = restore::restore_tables(&mut next, mem);
     if errno != 0 {
         return answers::refuse(errno);
     }
-    let rows = o.mapping;
-    maplayout::store_mapping(state, rows);
+    copy(state, &next);
     0
 }

@@ -18,8 +18,8 @@ use Rattle.mapping.specs.Commands.{placeFault}
 use Rattle.maplayout.specs.MapLayout.{decodeMap}
 use Rattle.tables.specs.Restored.{Out, fault, found, restored}
 use Rattle.mapkept.proofs.Answers.{placeFault-listed, lookup-listed, mapDevice-listed, unmapDevice-listed, mapCollection-listed, unmapCollection-listed, mapEvent-listed, discard-listed, move-listed}
-use Rattle.exact.proofs.Faults.{Known}
-use Rattle.exact.proofs.Exact.{fault-known}
+use Rattle.described.proofs.Faults.{Known}
+use Rattle.described.proofs.Exact.{fault-known}
 use Rattle.kept.specs.Good.{listed}
 use Rattle.kept.proofs.Choice.{chosen, choose-by}
 use Rattle.calls.specs.declared.Change.{Change}

@@ -32,7 +32,7 @@ use Rattle.mapkept.proofs.Placing.{place-rules, place-keeps, unplace-keeps, mac
 use Rattle.mapkept.proofs.Devices.{mapDevice-keeps, unmapDevice-keeps}
 use Rattle.mapkept.proofs.Collections.{mapCollection-keeps, unmapCollection-keeps}
 use Rattle.mapkept.proofs.Events.{mapEvent-keeps, discard-keeps, move-keeps}
-use Rattle.exact.proofs.Exact.{restored-ok}
+use Rattle.described.proofs.Exact.{restored-ok}
 use Rattle.kept.specs.Good.{Good, Stays, Keeps}
 use Rattle.kept.proofs.Choice.{chosen, choose-by, and-right}
 use Rattle.kept.proofs.Vcpus.{addVcpu-keeps, setRunning-keeps, setIrqs-keeps, itsInit-keeps, itsReset-keeps, fresh-good}

@@ -16,10 +16,10 @@ use Rattle.mapping.specs.Commands.{tableAreas, lookup}
 use Rattle.mapping.specs.MapRules.{mapRules}
 use Rattle.layout.specs.Layout.{size, decode}
 use Rattle.maplayout.specs.MapLayout.{decodeMap, storedMap}
-use Rattle.tables.specs.Described.{Described}
+use Rattle.described.specs.Described.{Described}
 use Rattle.tables.specs.Saved.{savedMemory}
 use Rattle.tables.specs.Restored.{Out, fault, found, restored}
-use Rattle.exact.proofs.Exact.{described-unique, refused-undescribed, fault-known, exact, restored-ok}
+use Rattle.described.proofs.Exact.{described-unique, refused-undescribed, fault-known, exact, restored-ok}
 use Rattle.savedlaws.proofs.Member.{all-weaker}
 use Rattle.savedlaws.proofs.Local.{Alike, SameIn}
 use Rattle.savedlaws.proofs.Again.{saved-again}

@@ -17,7 +17,7 @@ use Rattle.mapping.specs.Commands.{tableAreas, lookup}
 use Rattle.mapping.specs.MapRules.{isPlaced}
 use Rattle.layout.specs.Layout.{decode}
 use Rattle.maplayout.specs.MapLayout.{decodeMap}
-use Rattle.tables.specs.Described.{Described}
+use Rattle.described.specs.Described.{Described}
 use Rattle.calls.specs.Sound.{Sound}
 use Rattle.calls.specs.Commands.{itsInitialised}
 use Rattle.calls.specs.Call.{answered}

@@ -22,7 +22,7 @@ setTo base = record { set = 1; base = base }
 unfoldable pub areaFault : Area → Machine → ℕ
 areaFault a m = choose (endsBy (limitOf m) a) (choose (strikes (standing m) a) 22 0) 7
 
--- "Set 2, 3 or 4: already set -17; base not a multiple of 65,536 -22; -7; overlap with a standing frame -22."
+-- "Set 2, 3 or 4: .. already set -17; base not a multiple of 65,536 -22; -7; overlap with a standing frame -22."
 unfoldable pub frameFault : Frame → ℕ → ℕ → Machine → ℕ
 frameFault f size base m =
     choose (isSet f) 17
@@ -64,7 +64,7 @@ wordIndex w = getField w 0 12
 unfoldable pub regionWord : ℕ → Region → ℕ
 regionWord index r = putField (putField (putField 0 0 12 index) 16 36 (r .base / 65536)) 52 12 (r .count)
 
--- "Set 5: Single run stands -22; flags not 0 -22; count 0 -22; index not the number of regions standing -22; 33rd region -12; -7;
+-- "Set 5: .. Single run stands -22; flags not 0 -22; count 0 -22; index not the number of regions standing -22; 33rd region -12; -7;
 -- overlap -22."
 unfoldable pub regionFault : ℕ → Machine → ℕ
 regionFault w m =

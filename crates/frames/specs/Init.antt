@@ -37,7 +37,7 @@ vgicInit m =
     (choose (hasPlaces m) (accept (withControl (withInit (m .control)) m)) (refuse m 6))
     (refuse m 6)))
 
--- "VCPU k has its frame in the region where the running sum of counts first exceeds k, at base + 131,072 × (k − counts before)"
+-- "VCPU k .. has its frame in the region .. where the running sum of counts first exceeds k, at base + 131,072 × (k − counts before)"
 unfoldable pub locate : List Region → ℕ → ℕ
 locate [] k = 0
 locate (r ∷ rs) k =

@@ -63,7 +63,7 @@ unfoldable pub setRunning : ℕ → Machine → Result
 setRunning r m = choose (initialised m) (accept (withControl (withRunning r (m .control)) m)) (refuse m 6)
 
 -- Group 3, attribute 0, "value 4 bytes: 64 to 1,024 in steps of 32, else -22; then -16 if set before or after INIT". The banks of the
--- new count are fresh: none was written before INIT.
+-- new count are fresh: no call writes one before INIT.
 unfoldable pub setIrqs : ℕ → ℕ → ℕ → Machine → Result
 setIrqs attribute width value m =
     choose (eqb attribute 0)

@@ -42,7 +42,7 @@ irqSet k intid m = changeIrq k intid (raised (intid % 32)) m
 unfoldable pub irqClear : ℕ → ℕ → Machine → Result
 irqClear k intid m = changeIrq k intid (lowered (intid % 32)) m
 
--- "A device's line change"; "-22 for a line level above 1"; "SGIs ignore line changes"
+-- "A device's line change stores its level"; -22 for a line level above 1; SGIs ignore line changes
 unfoldable pub irqLine : ℕ → ℕ → ℕ → Machine → Result
 irqLine k intid level m =
     choose (eqb (irqFault k intid m) 0)

@@ -1,5 +1,5 @@
--- Groups 1 (distributor), 5 (redistributor) and 7 (level words): 4-byte values. Order: unknown name, width, not ready, running,
--- then the section's own.
+-- Groups 1 (distributor), 5 (redistributor) and 7 (level words): 4-byte values. Order: unknown name, width, not ready, running, then the
+-- section's own. Group 7 knows every attribute, and running does not stop it.
 use Prim.Native.Nat.{ℕ, _+_, _-_, _*_, _/_, _%_, _^_, _≤_}
 use mathlib.Core.Bool.{Bool, _&&_}
 use lib.ListN.{length}
@@ -33,7 +33,7 @@ redistributorRegister offset =
     (choose (eqb offset 0x10200) (Latch 0)
     (choose (eqb offset 0x10280) Zero Unknown))
 
--- what stops an access of a group before the register is looked at: width, not ready, running
+-- what stops an access of groups 1 and 5 once the register is known: width, not ready, running
 unfoldable pub accessFault : ℕ → Machine → ℕ
 accessFault width m =
     choose (eqb width 4) (choose (initialised m) (choose (isRunning m) 16 0) 6) 14

@@ -17,7 +17,7 @@ use Rattle.irqs.specs.declared.Spot.the-variants.{Own, Shared, Absent}
 unfoldable pub sharedSpot : ℕ → Machine → Spot
 sharedSpot n m = choose (ltb (n - 1) (length (m .shared))) (Shared (n - 1)) Absent
 
--- the bank of an INTID, named with VCPU k: "a good VCPU matters only below INTID 32"
+-- the bank of an INTID, named with VCPU k: "A good VCPU matters only below INTID 32"
 unfoldable pub spotOf : ℕ → ℕ → Machine → Spot
 spotOf k intid m = choose (ltb intid 32) (Own k) (sharedSpot (intid / 32) m)
 

@@ -3,25 +3,30 @@ use Prim.Native.Nat.{ℕ, _%_, _^_, _≤_, _<_}
 use native.Mathlib.Omega.{arith}
 use mathlib.Core.Path.{_≡_, refl, sym, ap, _∙_}
 use mathlib.Core.Logic.{inl}
-use mathlib.Core.Bool.{Bool, true, false, _&&_, _||_, not}
-use mathlib.Core.List.{List, [], _∷_}
-use lib.ListN.{length}
+use mathlib.Core.Bool.{Bool, true, false, _||_, not}
+use mathlib.Core.List.{List}
+use lib.ListN.{length, drop}
 use lib.Dec.{ltb, leb, eqb}
-use borrow.Author.Tests.{lt-ltb, le-leb, eq-eqb, ne-eqb, eqb-true, eqb-false, not-true, not-false}
+use borrow.Author.Tests.{lt-ltb, le-leb, eq-eqb, ne-eqb, eqb-true, not-true, not-false}
 use Rattle.lists.specs.Rows.{choose, all}
 use Rattle.fields.specs.Field.{getField}
 use Rattle.areas.specs.Area.{apart, endsBy, inside, overlaps}
 use Rattle.guest.specs.declared.Memory.{Memory}
 use Rattle.guest.specs.declared.Control.{Control}
 use Rattle.guest.specs.declared.Frame.{Frame}
+use Rattle.guest.specs.declared.Frames.{Frames}
 use Rattle.guest.specs.declared.Region.{Region}
 use Rattle.guest.specs.declared.Vcpu.{Vcpu}
 use Rattle.guest.specs.declared.Table.{Table}
+use Rattle.guest.specs.declared.Tables.{Tables}
 use Rattle.guest.specs.Machine.{Machine, isSet, sharedCount}
+use Rattle.words.specs.Words.{leAt}
+use Rattle.words.proofs.Rows.{length-rowsOf}
+use Rattle.layout.specs.Layout.{memoryOf, controlOf, framesOf, tablesOf, bankOf, decode}
 use Rattle.rules.specs.Standing.{standing, runSize, regionArea, total, distributorSize, itsSize}
-use Rattle.rules.specs.Rules.{memoryOk, irqsOk, controlOk, frameOk, regionOk, limitOf, framesOk, initOk, distinct, vcpuOk, vcpusOk, tableArea, memoryArea, tableOk, tablesOk, itsOk, rules}
-use Rattle.areas.proofs.Tests.{split, join, clash}
-use Rattle.rules.proofs.Parts.{Parts, init-whole}
+use Rattle.rules.specs.Rules.{memoryOk, irqsOk, controlOk, frameOk, regionOk, limitOf, framesOk, initOk, distinct, vcpuOk, vcpusOk, tableArea, memoryArea, tableOk, tablesOk, rules}
+use Rattle.areas.proofs.Tests.{refuted}
+use Rattle.rules.proofs.Parts.{frames-parts, init-parts, init-whole, tables-parts, its-parts, its-whole, rules-parts}
 
 -- what a call said of a test, where its answer led on or back
 pub passed : {b t : Bool} → b ≡ t → not b ≡ false → t ≡ true
@@ -73,49 +78,77 @@ module _ (end size : ℕ) (f : Frame) where
   unfolding frameOk
   frame-unset z = rw (ne-eqb (f .set) 1 (λ h. omega arith), eq-eqb (f .set) 0 z)
 
-  -- the test at the limit and the size that the code works out
-  pub frame-at : {b : Bool} (end′ size′ : ℕ) → end′ ≡ end → size′ ≡ size → b ≡ frameOk end′ size′ f → b ≡ frameOk end size f
-  frame-at end′ size′ p q e = rw (← p, ← q) e
-
 pub region-last : (end : ℕ) (r : Region) {b : Bool} → r .base % 65536 ≡ 0 → 1 ≤ r .count → r .count < 4096 → b ≡ endsBy end (regionArea r)
     → b ≡ regionOk end r
 unfolding regionOk
 region-last end r a s l q = rw (eq-eqb (r .base % 65536) 0 a, le-leb 1 (r .count) s, lt-ltb (r .count) 4096 l) q
 
-pub regions-at : (end : ℕ) (l : List Region) {b : Bool} (end′ : ℕ) → end′ ≡ end → b ≡ all (regionOk end′) l → b ≡ all (regionOk end) l
-regions-at end l end′ p e = rw (← p) e
+-- no region beside the single run, as the test says it
+none-beside : (f : Frame) (n : ℕ) → (f .set ≡ 1 → n ≡ 0) → choose (isSet f) (eqb n 0) true ≡ true
+none-beside f n h = go (isSet f) refl
+  where
+    go : (b : Bool) → isSet f ≡ b → choose b (eqb n 0) true ≡ true
+    go true q = eq-eqb n 0 (h (eqb-true (f .set) 1 q))
+    go false q = refl
 
--- the test of single run and regions, and what it says
-module _ (f : Frame) (n : ℕ) where
-  pub either-at : {b : Bool} (n′ : ℕ) → n ≡ n′ → b ≡ choose (isSet f) (eqb n′ 0) true → b ≡ choose (isSet f) (eqb n 0) true
-  either-at n′ p e = rw p e
+-- the frames: what the tests before the last one say, of the limit, the size, the frames and the number of regions that the code has
+pub record FramesHold (end size n : ℕ) (f : Frames) (l : List Region) : Type 0 where
+  pub distributor : frameOk end distributorSize (f .distributor) ≡ true
+  pub single : frameOk end size (f .single) ≡ true
+  pub its : frameOk end itsSize (f .its) ≡ true
+  pub regions : all (regionOk end) l ≡ true
+  pub either : choose (isSet (f .single)) (eqb n 0) true ≡ true
 
-  pub either-fails : choose (isSet f) (eqb n 0) true ≡ false → (f .set ≡ 1 → n ≡ 0) → ⊥
-  either-fails e h = go (isSet f) refl e
-    where
-      go : (b : Bool) → isSet f ≡ b → choose b (eqb n 0) true ≡ false → ⊥
-      go true q r = eqb-false n 0 r (h (eqb-true (f .set) 1 q))
-      go false q r = clash refl r
+module _ (m : Machine) (end size n : ℕ) (f : Frames) (he : end ≡ limitOf m) (hs : size ≡ runSize m) (hn : n ≡ length (m .regions)) (hf : f ≡ m .frames) where
+  pub frames-hold : framesOk m ≡ true → FramesHold end size n f (m .regions)
+  frames-hold e =
+      let p = frames-parts m e in
+      record {
+        distributor = rw (he, hf) (p .distributor);
+        single = rw (he, hs, hf) (p .single);
+        its = rw (he, hf) (p .its);
+        regions = rw he (p .regions);
+        either = rw (hf, hn) (none-beside (m .frames .single) (length (m .regions)) (p .either));
+      }
 
-pub frames-last : (m : Machine) {b : Bool} → frameOk (limitOf m) distributorSize (m .frames .distributor) ≡ true
-    → frameOk (limitOf m) (runSize m) (m .frames .single) ≡ true → frameOk (limitOf m) itsSize (m .frames .its) ≡ true → length (m .regions) ≤ 32
-    → all (regionOk (limitOf m)) (m .regions) ≡ true → choose (isSet (m .frames .single)) (eqb (length (m .regions)) 0) true ≡ true
-    → b ≡ apart (standing m) → b ≡ framesOk m
-unfolding framesOk
-frames-last m d s i l r e q = rw (d, s, i, le-leb (length (m .regions)) 32 l, r, e) q
+  pub frames-last : {b : Bool} → length (m .regions) ≤ 32 → FramesHold end size n f (m .regions) → b ≡ apart (standing m) → b ≡ framesOk m
+  unfolding framesOk
+  frames-last l p q =
+      rw (
+        rw (he, hf) at (p .distributor),
+        rw (he, hs, hf) at (p .single),
+        rw (he, hf) at (p .its),
+        le-leb (length (m .regions)) 32 l,
+        rw he at (p .regions),
+        rw (hf, hn) at (p .either),
+      ) q
 
-module _ (m : Machine) where
-  pub init-open : (m .control .init ≡ 1 → ⊥) → true ≡ initOk m
-  init-open n = sym (init-whole m (λ h. absurd (n h)))
+-- what INIT needs, of the mark, the frames and the number of VCPUs that the code has
+module _ (m : Machine) (mark : ℕ) (f : Frames) (n : ℕ) (hm : mark ≡ m .control .init) (hf : f ≡ m .frames) (hn : n ≡ length (m .vcpus)) where
+  pub init-open : (mark ≡ 1 → ⊥) → true ≡ initOk m
+  init-open k = sym (init-whole m (λ h. absurd (k (hm ∙ h))))
 
-  pub init-single : 1 ≤ length (m .vcpus) → m .frames .distributor .set ≡ 1 → m .frames .single .set ≡ 1 → true ≡ initOk m
-  init-single s d h = sym (init-whole m (λ i. record { some = s; distributor = d; room = inl h }))
+  pub init-none : mark ≡ 1 → n < 1 → false ≡ initOk m
+  init-none i s = refuted (initOk m) (λ e. omega (arith, init-parts m e (sym hm ∙ i) .some))
 
-  pub init-last : {b : Bool} → m .control .init ≡ 1 → 1 ≤ length (m .vcpus) → m .frames .distributor .set ≡ 1 → (m .frames .single .set ≡ 1 → ⊥)
-      → b ≡ leb (length (m .vcpus)) (total (m .regions)) → b ≡ initOk m
+  pub init-bare : mark ≡ 1 → (f .distributor .set ≡ 1 → ⊥) → false ≡ initOk m
+  init-bare i k = refuted (initOk m) (λ e. k (rw hf (init-parts m e (sym hm ∙ i) .distributor)))
+
+  pub init-single : 1 ≤ n → f .distributor .set ≡ 1 → f .single .set ≡ 1 → true ≡ initOk m
+  init-single s d h = sym (init-whole m (λ i. record { some = omega arith; distributor = rw hf at d; room = inl (rw hf at h) }))
+
+  pub init-last : {b : Bool} → mark ≡ 1 → 1 ≤ n → f .distributor .set ≡ 1 → (f .single .set ≡ 1 → ⊥) → b ≡ leb n (total (m .regions)) → b ≡ initOk m
   unfolding initOk
-  init-last i s d n q =
-      rw (eq-eqb (m .control .init) 1 i, le-leb 1 (length (m .vcpus)) s, eq-eqb (m .frames .distributor .set) 1 d, ne-eqb (m .frames .single .set) 1 n) q
+  init-last i s d k q =
+      rw (
+        ← hm,
+        ← hf,
+        ← hn,
+        eq-eqb mark 1 i,
+        le-leb 1 n s,
+        eq-eqb (f .distributor .set) 1 d,
+        ne-eqb (f .single .set) 1 k,
+      ) q
 
 pub vcpu-last : (v : Vcpu) → getField (v .bank .trigger) 0 16 ≡ 65535 → getField (v .bank .level) 0 16 ≡ 0 → ltb (v .status) 16 ≡ vcpuOk v
 unfolding vcpuOk
@@ -134,21 +167,94 @@ module _ (m : Memory) (t : Table) where
   unfolding tableOk
   table-unset z s = rw (ne-eqb (t .set) 1 (λ h. omega arith), eq-eqb (t .set) 0 z, eq-eqb (t .start) 0 s)
 
-module _ (m : Machine) where
-  pub tables-last : {b : Bool} → tableOk (m .memory) (m .tables .devices) ≡ true → tableOk (m .memory) (m .tables .collections) ≡ true
-      → m .tables .devices .set ≡ m .tables .collections .set → m .tables .devices .set ≤ m .control .itsinit
-      → b ≡ overlaps (tableArea (m .tables .devices)) (tableArea (m .tables .collections)) → not b ≡ tablesOk m
+-- the tables: the same, of the memory, the mark and the places that the code has
+pub record TablesHold (r : Memory) (mark : ℕ) (t : Tables) : Type 0 where
+  pub devices : tableOk r (t .devices) ≡ true
+  pub collections : tableOk r (t .collections) ≡ true
+  pub together : t .devices .set ≡ t .collections .set
+  pub after : t .devices .set ≤ mark
+
+module _ (m : Machine) (r : Memory) (mark : ℕ) (t : Tables) (hr : r ≡ m .memory) (hm : mark ≡ m .control .itsinit) (ht : t ≡ m .tables) where
+  pub tables-hold : tablesOk m ≡ true → TablesHold r mark t
+  tables-hold e =
+      let p = tables-parts m e in
+      record {
+        devices = rw (hr, ht) (p .devices);
+        collections = rw (hr, ht) (p .collections);
+        together = rw ht (p .together);
+        after = rw (hm, ht) (p .after);
+      }
+
+  pub tables-last : {b : Bool} → TablesHold r mark t → b ≡ overlaps (tableArea (t .devices)) (tableArea (t .collections)) → not b ≡ tablesOk m
   unfolding tablesOk
-  tables-last d k s a q =
-      rw (d, k, eq-eqb (m .tables .devices .set) (m .tables .collections .set) s, le-leb (m .tables .devices .set) (m .control .itsinit) a) (ap not q)
+  tables-last p q =
+      rw (
+        ← hr,
+        ← hm,
+        ← ht,
+        p .devices,
+        p .collections,
+        eq-eqb (t .devices .set) (t .collections .set) (p .together),
+        le-leb (t .devices .set) mark (p .after),
+      ) (ap not q)
 
-  abbrev shared : Bool
-  shared = eqb (length (m .shared)) (sharedCount (m .control .irqs))
+-- the parts that are loaded from the bytes are the parts of what the bytes stand for
+module _ (s : List ℕ) where
+  pub memory-read : {r : Memory} → r ≡ memoryOf s → r ≡ decode s .memory
+  unfolding decode
+  memory-read e = e
 
-  pub rules-last : {b : Bool} → memoryOk (m .memory) ≡ true → controlOk (m .control) ≡ true → framesOk m ≡ true → initOk m ≡ true → vcpusOk (m .vcpus) ≡ true
-      → (shared && itsOk m) ≡ true → b ≡ tablesOk m → b ≡ rules m
+  pub control-read : {k : Control} → k ≡ controlOf s → k ≡ decode s .control
+  unfolding decode
+  control-read e = e
+
+  pub frames-read : {f : Frames} → f ≡ framesOf s → f ≡ decode s .frames
+  unfolding decode
+  frames-read e = e
+
+  pub tables-read : {t : Tables} → t ≡ tablesOf s → t ≡ decode s .tables
+  unfolding decode
+  tables-read e = e
+
+  -- bytes are read as having the shared banks that their interrupt count says
+  shared-read : length (decode s .shared) ≡ sharedCount (decode s .control .irqs)
+  unfolding decode controlOf
+  shared-read = length-rowsOf bankOf 12 (sharedCount (leAt s 40 8)) (drop 1976 s)
+
+-- every rule: the same, of the memory, the marks and the frames that the code has
+pub record RulesHold (m : Machine) (r : Memory) (k : Control) (f : Frames) : Type 0 where
+  pub memory : memoryOk r ≡ true
+  pub control : controlOk k ≡ true
+  pub frames : framesOk m ≡ true
+  pub init : initOk m ≡ true
+  pub vcpus : vcpusOk (m .vcpus) ≡ true
+  pub its : k .itsinit ≤ f .its .set
+
+module _ (s : List ℕ) (r : Memory) (k : Control) (f : Frames) (hr : r ≡ memoryOf s) (hk : k ≡ controlOf s) (hf : f ≡ framesOf s) where
+  abbrev m : Machine
+  m = decode s
+
+  pub rules-hold : rules m ≡ true → RulesHold m r k f
+  rules-hold e =
+      let p = rules-parts m e in
+      record {
+        memory = rw (memory-read s hr) (p .memory);
+        control = rw (control-read s hk) (p .control);
+        frames = p .frames;
+        init = p .init;
+        vcpus = p .vcpus;
+        its = rw (control-read s hk, frames-read s hf) (its-parts m (p .its));
+      }
+
+  pub rules-last : {b : Bool} → RulesHold m r k f → b ≡ tablesOk m → b ≡ rules m
   unfolding rules
-  rules-last r k f i v s q = let p = split shared (itsOk m ∷ []) s in rw (r, k, f, i, v, p .0, p .1) q
-
-  pub rules-counts : Parts m → (shared && itsOk m) ≡ true
-  rules-counts p = join shared (itsOk m ∷ []) (eq-eqb (length (m .shared)) (sharedCount (m .control .irqs)) (p .shared), p .its)
+  rules-last p q =
+      rw (
+        rw (memory-read s hr) at (p .memory),
+        rw (control-read s hk) at (p .control),
+        p .frames,
+        p .init,
+        p .vcpus,
+        eq-eqb (length (m .shared)) (sharedCount (m .control .irqs)) (shared-read s),
+        its-whole m (rw (control-read s hk, frames-read s hf) at (p .its)),
+      ) q

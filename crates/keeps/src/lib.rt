@@ -1,34 +1,38 @@
-// Whether a guest keeps the rules: the test that its bytes pass before any call goes on.
+// Whether the bytes of a state hold a guest that keeps the rules: the test that they pass before any call goes on. Regions and VCPUs
+// are read where they lie, one row at a time, so that no table is ever copied.
 use areas::Area;
 use guest::Control;
 use guest::Frame;
-use guest::Guest;
+use guest::Frames;
 use guest::Memory;
 use guest::Region;
-use guest::Regions;
 use guest::Table;
 use guest::Vcpu;
-use guest::Vcpus;
 ghost use mathlib.Core.Path.{_≡_};
-ghost use mathlib.Core.Bool.{true, _&&_};
+ghost use mathlib.Core.Bool.{true};
+ghost use mathlib.Core.List.{map};
 ghost use Prim.Native.Nat.{_≤_};
-ghost use lib.Dec.{eqb};
-ghost use lib.ListN.{length, take};
+ghost use lib.Dec.{leb, eqb};
+ghost use lib.ListN.{length, drop};
 ghost use Rattle.lists.specs.Rows.{all, choose};
-ghost use Rattle.guest.specs.Machine.{view, Held, isSet, sharedCount};
+ghost use Rattle.areas.specs.Area.{strikes, apart};
+ghost use Rattle.guest.specs.Machine.{isSet};
+ghost use Rattle.layout.specs.Layout.{decode, Counted};
+ghost use Rattle.rules.specs.Standing.{runSize, regionArea, smallCount, standing, total};
 ghost use Rattle.rules.specs.Rules.{
   memoryOk,
   controlOk,
   frameOk,
   regionOk,
+  limitOf,
   framesOk,
   initOk,
+  taken,
   distinct,
   vcpuOk,
   vcpusOk,
   tableOk,
   tablesOk,
-  itsOk,
   rules,
 };
 
@@ -130,14 +134,14 @@ fn region_ok(end: u64, r: Region) -> bool
     areas::ends_by(end, a)
 }
 
-fn regions_ok(end: u64, r: Regions) -> bool
-    requires { ⌜ r .count ≤ 32 ⌝ }
-    ensures { λ x. ⌜ x ≡ all (regionOk end) (take (r .count) (r .rows)) ⌝ }
+fn regions_ok(s: &[u8], end: u64) -> bool
+    requires { ⌜ Counted (now s) ⌝ }
+    ensures { λ x. ⌜ x ≡ all (regionOk end) (decode (now (s .entry)) .regions) ⌝ }
 {
-    let n = r.count;
+    let n = layout::region_count(s);
     let mut i: usize = 0;
     while i < n {
-        let row = r.rows[i];
+        let row = layout::region_at(s, i);
         if !region_ok(end, row) {
             return false;
         }
@@ -156,53 +160,166 @@ fn either_ok(single: Frame, regions: usize) -> bool
     true
 }
 
-// The frames. That they stand apart is asked last: only then is every size known to be a number of 64 bits.
-fn frames_ok(g: Guest) -> bool
-    requires { ⌜ Held g ⌝ }
-    requires { ⌜ g .memory .width ≤ 52 ⌝ }
-    ensures { λ r. ⌜ r ≡ framesOk (view g) ⌝ }
+// The bytes that the single run counts for: 128 KiB before INIT, 128 KiB for each VCPU after it.
+fn run_size(s: &[u8], init: u64) -> u64
+    requires { ⌜ Counted (now s) ⌝ }
+    requires { ⌜ init ≡ decode (now s) .control .init ⌝ }
+    ensures { λ r. ⌜ r ≡ runSize (decode (now (s .entry))) ⌝ }
 {
-    let memory = g.memory;
-    let frames = g.frames;
-    let regions = g.regions;
-    let distributor = frames.distributor;
-    let single = frames.single;
-    let its = frames.its;
-    let end = rules::limit(memory.width);
-    if !frame_ok(end, 65536, distributor) {
+    if init == 1 {
+        return 131072 * (layout::vcpu_count(s) as u64);
+    }
+    131072
+}
+
+// The area of a frame. One whose base is not set has no byte, and so overlaps nothing.
+fn frame_area(f: Frame, size: u64) -> Area
+    ensures { λ r. ⌜ r ≡ record { start = f .base; size = choose (isSet f) size 0 } ⌝ }
+{
+    if f.set == 1 {
+        return Area {
+            start: f.base,
+            size: size,
+        };
+    }
+    Area {
+        start: f.base,
+        size: 0,
+    }
+}
+
+// Whether an area overlaps a region from the one at `from` on. A count below 4,096 keeps the size of each a number of 64 bits.
+fn region_struck(s: &[u8], from: usize, a: Area) -> bool
+    requires { ⌜ Counted (now s) × (all smallCount (decode (now s) .regions) ≡ true) ⌝ }
+    requires { ⌜ from ≤ length (decode (now s) .regions) ⌝ }
+    ensures { λ r. ⌜ r ≡ strikes (drop from (map regionArea (decode (now (s .entry)) .regions))) a ⌝ }
+{
+    let n = layout::region_count(s);
+    let mut i = from;
+    while i < n {
+        let row = layout::region_at(s, i);
+        let b = Area {
+            start: row.base,
+            size: 131072 * row.count,
+        };
+        if areas::overlaps(a, b) {
+            return true;
+        }
+        i += 1;
+    }
+    false
+}
+
+// Whether no two regions overlap.
+fn regions_apart(s: &[u8]) -> bool
+    requires { ⌜ Counted (now s) × (all smallCount (decode (now s) .regions) ≡ true) ⌝ }
+    ensures { λ r. ⌜ r ≡ apart (map regionArea (decode (now (s .entry)) .regions)) ⌝ }
+{
+    let n = layout::region_count(s);
+    let mut i: usize = 0;
+    while i < n {
+        let row = layout::region_at(s, i);
+        let a = Area {
+            start: row.base,
+            size: 131072 * row.count,
+        };
+        if region_struck(s, i + 1, a) {
+            return false;
+        }
+        i += 1;
+    }
+    true
+}
+
+// Whether no two frames that stand overlap: each pair of the three that have one base, each of these with the regions, and the
+// regions with each other.
+fn frames_apart(s: &[u8], size: u64, f: Frames) -> bool
+    requires { ⌜ Counted (now s) × (all smallCount (decode (now s) .regions) ≡ true) ⌝ }
+    requires { ⌜ (size ≡ runSize (decode (now s))) × (f ≡ decode (now s) .frames) ⌝ }
+    ensures { λ r. ⌜ r ≡ apart (standing (decode (now (s .entry)))) ⌝ }
+{
+    let distributor = frame_area(f.distributor, 65536);
+    let single = frame_area(f.single, size);
+    let its = frame_area(f.its, 131072);
+    if areas::overlaps(its, distributor) {
         return false;
     }
-    let size = rules::run_size(g);
+    if areas::overlaps(its, single) {
+        return false;
+    }
+    if region_struck(s, 0, its) {
+        return false;
+    }
+    if areas::overlaps(distributor, single) {
+        return false;
+    }
+    if region_struck(s, 0, distributor) {
+        return false;
+    }
+    if region_struck(s, 0, single) {
+        return false;
+    }
+    regions_apart(s)
+}
+
+// The frames. That they stand apart is asked last: only then is every size known to be a number of 64 bits.
+fn frames_ok(s: &[u8], end: u64, init: u64, f: Frames) -> bool
+    requires { ⌜ Counted (now s) ⌝ }
+    requires { ⌜ (end ≡ limitOf (decode (now s))) × (init ≡ decode (now s) .control .init) × (f ≡ decode (now s) .frames) ⌝ }
+    ensures { λ r. ⌜ r ≡ framesOk (decode (now (s .entry))) ⌝ }
+{
+    let single = f.single;
+    let size = run_size(s, init);
+    if !frame_ok(end, 65536, f.distributor) {
+        return false;
+    }
     if !frame_ok(end, size, single) {
         return false;
     }
-    if !frame_ok(end, 131072, its) {
+    if !frame_ok(end, 131072, f.its) {
         return false;
     }
-    if !regions_ok(end, regions) {
+    if !regions_ok(s, end) {
         return false;
     }
-    if !either_ok(single, regions.count) {
+    if !either_ok(single, layout::region_count(s)) {
         return false;
     }
-    areas::apart(rules::standing(g))
+    frames_apart(s, size, f)
+}
+
+// Whether the regions have room for n redistributors. What is left of n is kept, so that no sum can be too large.
+fn covers(s: &[u8], n: u64) -> bool
+    requires { ⌜ Counted (now s) ⌝ }
+    ensures { λ x. ⌜ x ≡ leb n (total (decode (now (s .entry)) .regions)) ⌝ }
+{
+    let rows = layout::region_count(s);
+    let mut left = n;
+    let mut i: usize = 0;
+    while i < rows {
+        let row = layout::region_at(s, i);
+        if left <= row.count {
+            return true;
+        }
+        left = left - row.count;
+        i += 1;
+    }
+    left == 0
 }
 
 // What INIT needs stands once it is done.
-fn init_ok(g: Guest) -> bool
-    requires { ⌜ Held g ⌝ }
-    ensures { λ r. ⌜ r ≡ initOk (view g) ⌝ }
+fn init_ok(s: &[u8], init: u64, f: Frames) -> bool
+    requires { ⌜ Counted (now s) ⌝ }
+    requires { ⌜ (init ≡ decode (now s) .control .init) × (f ≡ decode (now s) .frames) ⌝ }
+    ensures { λ r. ⌜ r ≡ initOk (decode (now (s .entry))) ⌝ }
 {
-    let control = g.control;
-    let frames = g.frames;
-    let distributor = frames.distributor;
-    let single = frames.single;
-    let vcpus = g.vcpus;
-    let regions = g.regions;
-    if control.init != 1 {
+    let distributor = f.distributor;
+    let single = f.single;
+    let vcpus = layout::vcpu_count(s);
+    if init != 1 {
         return true;
     }
-    if vcpus.count < 1 {
+    if vcpus < 1 {
         return false;
     }
     if distributor.set != 1 {
@@ -211,7 +328,7 @@ fn init_ok(g: Guest) -> bool
     if single.set == 1 {
         return true;
     }
-    rules::covers(regions, vcpus.count as u64)
+    covers(s, vcpus as u64)
 }
 
 // SGIs, bits 15:0 of the VCPU's bank, are edge with level 0; STATUSR has four bits.
@@ -228,14 +345,14 @@ fn vcpu_ok(v: Vcpu) -> bool
     v.status < 16
 }
 
-fn each_vcpu_ok(v: Vcpus) -> bool
-    requires { ⌜ v .count ≤ 64 ⌝ }
-    ensures { λ r. ⌜ r ≡ all vcpuOk (take (v .count) (v .rows)) ⌝ }
+fn each_vcpu_ok(s: &[u8]) -> bool
+    requires { ⌜ Counted (now s) ⌝ }
+    ensures { λ r. ⌜ r ≡ all vcpuOk (decode (now (s .entry)) .vcpus) ⌝ }
 {
-    let n = v.count;
+    let n = layout::vcpu_count(s);
     let mut i: usize = 0;
     while i < n {
-        let row = v.rows[i];
+        let row = layout::vcpu_at(s, i);
         if !vcpu_ok(row) {
             return false;
         }
@@ -244,16 +361,34 @@ fn each_vcpu_ok(v: Vcpus) -> bool
     true
 }
 
-// No two VCPUs have one affinity.
-fn distinct_ok(v: Vcpus) -> bool
-    requires { ⌜ v .count ≤ 64 ⌝ }
-    ensures { λ r. ⌜ r ≡ distinct (take (v .count) (v .rows)) ⌝ }
+// Whether a VCPU from the one at `from` on has the affinity.
+fn taken_from(s: &[u8], from: usize, affinity: u64) -> bool
+    requires { ⌜ Counted (now s) ⌝ }
+    requires { ⌜ from ≤ length (decode (now s) .vcpus) ⌝ }
+    ensures { λ r. ⌜ r ≡ taken (drop from (decode (now (s .entry)) .vcpus)) affinity ⌝ }
 {
-    let n = v.count;
+    let n = layout::vcpu_count(s);
+    let mut i = from;
+    while i < n {
+        let row = layout::vcpu_at(s, i);
+        if row.affinity == affinity {
+            return true;
+        }
+        i += 1;
+    }
+    false
+}
+
+// No two VCPUs have one affinity.
+fn distinct_ok(s: &[u8]) -> bool
+    requires { ⌜ Counted (now s) ⌝ }
+    ensures { λ r. ⌜ r ≡ distinct (decode (now (s .entry)) .vcpus) ⌝ }
+{
+    let n = layout::vcpu_count(s);
     let mut i: usize = 0;
     while i < n {
-        let row = v.rows[i];
-        if rules::taken_from(v, i + 1, row.affinity) {
+        let row = layout::vcpu_at(s, i);
+        if taken_from(s, i + 1, row.affinity) {
             return false;
         }
         i += 1;
@@ -261,14 +396,14 @@ fn distinct_ok(v: Vcpus) -> bool
     true
 }
 
-fn vcpus_ok(v: Vcpus) -> bool
-    requires { ⌜ v .count ≤ 64 ⌝ }
-    ensures { λ r. ⌜ r ≡ vcpusOk (take (v .count) (v .rows)) ⌝ }
+fn vcpus_ok(s: &[u8]) -> bool
+    requires { ⌜ Counted (now s) ⌝ }
+    ensures { λ r. ⌜ r ≡ vcpusOk (decode (now (s .entry)) .vcpus) ⌝ }
 {
-    if !each_vcpu_ok(v) {
+    if !each_vcpu_ok(s) {
         return false;
     }
-    distinct_ok(v)
+    distinct_ok(s)
 }
 
 // A table's place is a whole number of pages inside memory; one that is not placed is 0.
@@ -305,24 +440,24 @@ fn table_ok(m: Memory, t: Table) -> bool
 }
 
 // The two tables are placed together, after ITS INIT, and do not overlap.
-fn tables_ok(g: Guest) -> bool
-    ensures { λ r. ⌜ r ≡ tablesOk (view g) ⌝ }
+fn tables_ok(s: &[u8], m: Memory, itsinit: u64) -> bool
+    requires { ⌜ Counted (now s) ⌝ }
+    requires { ⌜ (m ≡ decode (now s) .memory) × (itsinit ≡ decode (now s) .control .itsinit) ⌝ }
+    ensures { λ r. ⌜ r ≡ tablesOk (decode (now (s .entry))) ⌝ }
 {
-    let memory = g.memory;
-    let control = g.control;
-    let tables = g.tables;
+    let tables = layout::load_tables(s);
     let devices = tables.devices;
     let collections = tables.collections;
-    if !table_ok(memory, devices) {
+    if !table_ok(m, devices) {
         return false;
     }
-    if !table_ok(memory, collections) {
+    if !table_ok(m, collections) {
         return false;
     }
     if devices.set != collections.set {
         return false;
     }
-    if control.itsinit < devices.set {
+    if itsinit < devices.set {
         return false;
     }
     let first = Area {
@@ -336,47 +471,33 @@ fn tables_ok(g: Guest) -> bool
     !areas::overlaps(first, second)
 }
 
-// The shared banks are those below the interrupt count; ITS INIT needs the ITS base.
-fn counts_ok(g: Guest) -> bool
-    requires { ⌜ Held g ⌝ }
-    requires { ⌜ 32 ≤ g .control .irqs ⌝ }
-    ensures { λ r. ⌜ r ≡ (eqb (length (view g .shared)) (sharedCount (g .control .irqs)) && itsOk (view g)) ⌝ }
+// Whether the bytes hold a guest that keeps every rule. That it has as many shared banks as the interrupt count says is no test:
+// bytes are read as having that many.
+pub fn keeps_rules(s: &[u8]) -> bool
+    requires { ⌜ Counted (now s) ⌝ }
+    ensures { λ r. ⌜ r ≡ rules (decode (now (s .entry))) ⌝ }
 {
-    let control = g.control;
-    let shared = g.shared;
-    let frames = g.frames;
+    let memory = layout::load_memory(s);
+    let control = layout::load_control(s);
+    let frames = layout::load_frames(s);
     let its = frames.its;
-    if shared.count as u64 != control.irqs / 32 - 1 {
-        return false;
-    }
-    control.itsinit <= its.set
-}
-
-// Whether a guest keeps every rule that its state can break.
-pub fn keeps_rules(g: Guest) -> bool
-    requires { ⌜ Held g ⌝ }
-    ensures { λ r. ⌜ r ≡ rules (view g) ⌝ }
-{
-    let memory = g.memory;
-    let control = g.control;
-    let vcpus = g.vcpus;
     if !memory_ok(memory) {
         return false;
     }
     if !control_ok(control) {
         return false;
     }
-    if !frames_ok(g) {
+    if !frames_ok(s, rules::limit(memory.width), control.init, frames) {
         return false;
     }
-    if !init_ok(g) {
+    if !init_ok(s, control.init, frames) {
         return false;
     }
-    if !vcpus_ok(vcpus) {
+    if !vcpus_ok(s) {
         return false;
     }
-    if !counts_ok(g) {
+    if its.set < control.itsinit {
         return false;
     }
-    tables_ok(g)
+    tables_ok(s, memory, control.itsinit)
 }

@@ -3,3 +3,4 @@ pub mod Sizes
 pub mod Stored
 pub mod Round
 pub mod Typed
+pub mod InPlace

@@ -1,10 +1,10 @@
 -- The guest's state as bytes, little endian. From 0: 23 words of 8 bytes, with the number of regions and of VCPUs last; from 184:
 -- regions, 16 bytes each, room for 32; from 696: VCPUs, 20 bytes each, room for 64; from 1,976: shared banks, 12 bytes each, room for
--- 31, as many as the interrupt count has; from 2,352 the mapping: its three counts of 8 bytes, then room for 32 devices of 24 bytes,
+-- 31, as many as the interrupt count has, and four bytes that nothing reads; from 2,352 the mapping: its three counts of 8 bytes, then room for 32 devices of 24 bytes,
 -- 16 collections of 4 and 1,024 events of 8. What lies past a table's last row is never read, and stays as it is.
 use Prim.Native.Nat.{ℕ, _+_}
 use mathlib.Core.Path.{_≡_}
-use mathlib.Core.Bool.{Bool, _&&_}
+use mathlib.Core.Bool.{Bool, true, _&&_}
 use mathlib.Core.List.{List, [], _∷_, _++_}
 use lib.ListN.{length, drop}
 use lib.Dec.{leb}
@@ -127,3 +127,8 @@ stored m s =
 -- the numbers of rows are within the room for them
 unfoldable pub countsOk : List ℕ → Bool
 countsOk s = leb (leAt s 168 8) 32 && (leb (leAt s 176 8) 64 && leb (sharedCount (leAt s 40 8)) 31)
+
+-- bytes of a state's length whose numbers of rows fit: what reading a row asks
+pub record Counted (s : List ℕ) : Type 0 where
+  pub long : length s ≡ size
+  pub counts : countsOk s ≡ true

@@ -20,12 +20,12 @@ ghost use mathlib.Core.Path.{_≡_};
 ghost use mathlib.Core.Bool.{true};
 ghost use mathlib.Core.List.{[], _∷_};
 ghost use Prim.Native.Nat.{_+_, _*_, _≤_, _<_};
-ghost use lib.ListN.{length, take, drop};
+ghost use lib.ListN.{length, take, drop, getD};
 ghost use Rattle.words.specs.Words.{rowsOf, bytesAll, bytesOf, putAt};
-ghost use Rattle.guest.specs.Machine.{view, Held, sharedCount};
-ghost use Rattle.layout.specs.Layout.{size, memoryOf, controlOf, frameAt, framesOf, tableAt, tablesOf, regionOf, regionBytes, vcpuOf, vcpuBytes, bankOf, bankBytes, controlWords, framesWords, tablesWords, headWords, decode, stored, countsOk};
+ghost use Rattle.guest.specs.Machine.{view, Held, sharedCount, noRegion, noVcpu};
+ghost use Rattle.layout.specs.Layout.{size, memoryOf, controlOf, frameAt, framesOf, tableAt, tablesOf, regionOf, regionBytes, vcpuOf, vcpuBytes, bankOf, bankBytes, controlWords, framesWords, tablesWords, headWords, decode, stored, countsOk, Counted};
 
-fn load_memory(s: &[u8]) -> Memory
+pub fn load_memory(s: &[u8]) -> Memory
     requires { ⌜ length (now s) ≡ size ⌝ }
     ensures { λ r. ⌜ r ≡ memoryOf (now (s .entry)) ⌝ }
 {
@@ -36,7 +36,7 @@ fn load_memory(s: &[u8]) -> Memory
     }
 }
 
-fn load_control(s: &[u8]) -> Control
+pub fn load_control(s: &[u8]) -> Control
     requires { ⌜ length (now s) ≡ size ⌝ }
     ensures { λ r. ⌜ r ≡ controlOf (now (s .entry)) ⌝ }
 {
@@ -60,7 +60,7 @@ fn load_frame(s: &[u8], at: usize) -> Frame
     }
 }
 
-fn load_frames(s: &[u8]) -> Frames
+pub fn load_frames(s: &[u8]) -> Frames
     requires { ⌜ length (now s) ≡ size ⌝ }
     ensures { λ r. ⌜ r ≡ framesOf (now (s .entry)) ⌝ }
 {
@@ -82,7 +82,7 @@ fn load_table(s: &[u8], at: usize) -> Table
     }
 }
 
-fn load_tables(s: &[u8]) -> Tables
+pub fn load_tables(s: &[u8]) -> Tables
     requires { ⌜ length (now s) ≡ size ⌝ }
     ensures { λ r. ⌜ r ≡ tablesOf (now (s .entry)) ⌝ }
 {
@@ -271,6 +271,35 @@ pub fn counts_ok(s: &[u8]) -> bool
     }
     let banks = shared_count(get64(s, 40));
     banks <= 31
+}
+
+// The numbers of rows and the rows one by one, read where they lie: the test of the bytes need not load the tables.
+pub fn region_count(s: &[u8]) -> usize
+    requires { ⌜ Counted (now s) ⌝ }
+    ensures { λ r. ⌜ r ≡ length (decode (now (s .entry)) .regions) ⌝ }
+{
+    get64(s, 168) as usize
+}
+
+pub fn vcpu_count(s: &[u8]) -> usize
+    requires { ⌜ Counted (now s) ⌝ }
+    ensures { λ r. ⌜ r ≡ length (decode (now (s .entry)) .vcpus) ⌝ }
+{
+    get64(s, 176) as usize
+}
+
+pub fn region_at(s: &[u8], i: usize) -> Region
+    requires { ⌜ Counted (now s) × (i < length (decode (now s) .regions)) ⌝ }
+    ensures { λ r. ⌜ r ≡ getD (decode (now (s .entry)) .regions) i noRegion ⌝ }
+{
+    load_region(s, 184 + i * 16)
+}
+
+pub fn vcpu_at(s: &[u8], i: usize) -> Vcpu
+    requires { ⌜ Counted (now s) × (i < length (decode (now s) .vcpus)) ⌝ }
+    ensures { λ r. ⌜ r ≡ getD (decode (now (s .entry)) .vcpus) i (noVcpu 0) ⌝ }
+{
+    load_vcpu(s, 696 + i * 20)
 }
 
 // The guest that the bytes hold.

@@ -1,74 +1,99 @@
--- The loops over the rows of a table: those that ask whether keys rise, and those that test each row. Assumes nothing.
+-- The loops over the rows of a table: those that ask whether keys rise, and those that test each row. `n` is the number that the code
+-- read, and `l` the rows that the bytes stand for. Assumes nothing.
 use Prim.Native.Nat.{ℕ, _+_, _≤_, _<_}
 use native.Mathlib.Nat.{not-suc-le-zero}
+use native.Mathlib.Numerals.{add-one}
 use native.Mathlib.Omega.{arith}
 use mathlib.Core.Path.{_≡_, refl, sym, ap, _∙_}
 use mathlib.Core.Bool.{Bool, true, false, _&&_}
 use mathlib.Core.List.{List, _∷_}
 use mathlib.Core.Logic.{⊎-elim}
-use lib.ListN.{length, getD, take, drop}
-use lib.Dec.{ltb}
+use lib.ListN.{length, getD, take, drop, drop-of-length-le}
+use lib.Seq.{drop-cons, take-all}
+use lib.Dec.{ltb, eqb}
 use borrow.Author.Count.{below-more}
-use borrow.Author.Tests.{lt-ltb, le-ltb}
+use borrow.Author.Tests.{lt-ltb, le-ltb, eq-eqb, ne-eqb}
 use Rattle.lists.specs.Rows.{all}
-use Rattle.lists.proofs.Find.{rows-fail, rows-hold}
-use Rattle.areas.proofs.Has.{rows-left, rows-end}
+use Rattle.lists.proofs.Find.{all-fails, all-hold}
 use Rattle.areas.proofs.Tests.{lt-or-ge}
-use Rattle.mapping.specs.Mapped.{rising}
+use Rattle.mapping.specs.Mapped.{findKey, rising}
+use Rattle.mapping.proofs.Table.{Seeking, seek-turn, seek-here, seek-end}
 
--- keys rise among the first n where they rise from the row at i on
+-- what is left from the row at i on
+pub left-from : {A : Type 0} (d : A) (l : List A) (i : ℕ) → i < length l → drop i l ≡ getD l i d ∷ drop (i + 1) l
+left-from d l i h = rw add-one (drop-cons l i d h)
+
+-- a search by key among as many rows as there are
+module _ {A : Type 0} (key : A → ℕ) (k : ℕ) (d : A) (n : ℕ) (l : List A) where
+  abbrev pub SeekingKey : ℕ → Type 0
+  SeekingKey i = Seeking (λ x. eqb (key x) k) d n l i
+
+  whole : {at : ℕ} → n ≡ length l → at ≡ findKey key k (take n l) → at ≡ findKey key k l
+  whole e q = q ∙ ap (findKey key k) (take-all n l (omega arith))
+
+  module _ (i : ℕ) (v : SeekingKey i) where
+    pub key-here : {x : A} → n ≡ length l → x ≡ getD l i d → i < n → key x ≡ k → i ≡ findKey key k l
+    key-here e r h t = whole e (seek-here (λ x. eqb (key x) k) d n l i v h (eq-eqb (key (getD l i d)) k (ap key (sym r) ∙ t)))
+
+    pub key-turn : {x : A} → x ≡ getD l i d → i < n → (key x ≡ k → ⊥) → SeekingKey (i + 1)
+    key-turn r h t = seek-turn (λ x. eqb (key x) k) d n l i v h (ne-eqb (key (getD l i d)) k (λ e. t (ap key r ∙ e)))
+
+    pub key-end : n ≡ length l → n ≤ i → n ≡ findKey key k l
+    key-end e h = whole e (seek-end (λ x. eqb (key x) k) d n l i v h)
+
+-- keys rise where they rise from the row at i on
 module _ {A : Type 0} (key : A → ℕ) (d : A) (n : ℕ) (l : List A) where
   pub record Climbing (i : ℕ) : Type 0 where
-    pub room : n ≤ length l
+    pub count : n ≡ length l
     pub end : i ≤ n
-    pub left : rising key (take n l) ≡ rising key (drop i (take n l))
+    pub left : rising key l ≡ rising key (drop i l)
 
-  pub climb-start : n ≤ length l → Climbing 0
-  climb-start r = record { room = r; end = omega arith; left = refl }
+  pub climb-start : n ≡ length l → Climbing 0
+  climb-start e = record { count = e; end = omega arith; left = refl }
 
   module _ (i : ℕ) (v : Climbing i) where
-    -- two rows are left: the first two decide, with what is left from the second on
-    climb-two : i + 1 < n → rising key (take n l) ≡ (ltb (key (getD l i d)) (key (getD l (i + 1) d)) && rising key (drop (i + 1) (take n l)))
+    -- two rows are left: the keys of the first two decide, with what is left from the second on
+    climb-two : {a b : ℕ} → i + 1 < n → a ≡ key (getD l i d) → b ≡ key (getD l (i + 1) d) → rising key l ≡ (ltb a b && rising key (drop (i + 1) l))
     unfolding rising
-    climb-two h =
-        let e = rows-left d n l (i + 1) (v .room) h in
-        v .left ∙ ap (rising key) (rows-left d n l i (v .room) (omega arith)) ∙ rw e
+    climb-two h p q =
+        let e = left-from d l (i + 1) (omega (arith, v .count)) in
+        v .left ∙ ap (rising key) (left-from d l i (omega (arith, v .count))) ∙ rw (p, q, e)
 
-    pub climb-turn : i + 1 < n → key (getD l i d) < key (getD l (i + 1) d) → Climbing (i + 1)
-    climb-turn h t = record {
-      room = v .room;
+    pub climb-turn : {a b : ℕ} → i + 1 < n → a ≡ key (getD l i d) → b ≡ key (getD l (i + 1) d) → a < b → Climbing (i + 1)
+    climb-turn {a} {b} h p q t = record {
+      count = v .count;
       end = omega arith;
-      left = climb-two h ∙ ap (λ (b : Bool). b && rising key (drop (i + 1) (take n l))) (lt-ltb (key (getD l i d)) (key (getD l (i + 1) d)) t);
+      left = climb-two h p q ∙ ap (λ (c : Bool). c && rising key (drop (i + 1) l)) (lt-ltb a b t);
     }
 
-    pub climb-fall : i + 1 < n → key (getD l (i + 1) d) ≤ key (getD l i d) → false ≡ rising key (take n l)
-    climb-fall h t =
-        sym (climb-two h ∙ ap (λ (b : Bool). b && rising key (drop (i + 1) (take n l))) (le-ltb (key (getD l i d)) (key (getD l (i + 1) d)) t))
+    pub climb-fall : {a b : ℕ} → i + 1 < n → a ≡ key (getD l i d) → b ≡ key (getD l (i + 1) d) → b ≤ a → false ≡ rising key l
+    climb-fall {a} {b} h p q t = sym (climb-two h p q ∙ ap (λ (c : Bool). c && rising key (drop (i + 1) l)) (le-ltb a b t))
 
     -- one row is left, or none
-    pub climb-end : n ≤ i + 1 → true ≡ rising key (take n l)
+    pub climb-end : n ≤ i + 1 → true ≡ rising key l
     unfolding rising
     climb-end h =
+        let e = v .count in
         sym (v .left ∙ ⊎-elim
-        (λ g. ap (rising key) (rows-left d n l i (v .room) g ∙ ap (λ (x : List A). getD l i d ∷ x) (rows-end n l (i + 1) (v .room) h)))
-        (λ g. ap (rising key) (rows-end n l i (v .room) g)) (lt-or-ge i n))
+        (λ g. ap (rising key) (left-from d l i (omega arith) ∙ ap (λ (x : List A). getD l i d ∷ x) (drop-of-length-le l {i = i + 1} (omega arith))))
+        (λ g. ap (rising key) (drop-of-length-le l {i = i} (omega arith))) (lt-or-ge i n))
 
 -- every row before i passes
 module _ {A : Type 0} (p : A → Bool) (d : A) (n : ℕ) (l : List A) where
   pub record Passing (i : ℕ) : Type 0 where
-    pub room : n ≤ length l
+    pub count : n ≡ length l
     pub end : i ≤ n
     pub each : (j : ℕ) → j < i → p (getD l j d) ≡ true
 
-  pub pass-start : n ≤ length l → Passing 0
-  pass-start r = record { room = r; end = omega arith; each = λ j h. absurd (not-suc-le-zero h) }
+  pub pass-start : n ≡ length l → Passing 0
+  pass-start e = record { count = e; end = omega arith; each = λ j h. absurd (not-suc-le-zero h) }
 
-  module _ (i : ℕ) (v : Passing i) where
-    pub pass-turn : i < n → p (getD l i d) ≡ true → Passing (i + 1)
-    pass-turn h t = record { room = v .room; end = omega arith; each = below-more _ _ (v .each) t }
+  module _ (i : ℕ) (v : Passing i) {x : A} (e : x ≡ getD l i d) where
+    pub pass-turn : i < n → p x ≡ true → Passing (i + 1)
+    pass-turn h t = record { count = v .count; end = omega arith; each = below-more _ _ (v .each) (ap p (sym e) ∙ t) }
 
-    pub pass-fail : i < n → p (getD l i d) ≡ false → false ≡ all p (take n l)
-    pass-fail h t = sym (rows-fail p d n l i (v .room) h t)
+    pub pass-fail : i < n → p x ≡ false → false ≡ all p l
+    pass-fail h t = sym (all-fails p d l i (omega (arith, v .count)) (ap p (sym e) ∙ t))
 
-    pub pass-end : n ≤ i → true ≡ all p (take n l)
-    pass-end h = sym (rows-hold p d n l (v .room) (λ j g. v .each j (omega arith)))
+  pub pass-end : (i : ℕ) → Passing i → n ≤ i → true ≡ all p l
+  pass-end i v h = sym (all-hold p d l (λ j g. v .each j (omega (arith, v .count))))

@@ -1,28 +1,32 @@
 -- The tests of the code decide the rules of a mapping: row by row, and in all. Assumes nothing.
-use Prim.Native.Nat.{ℕ, _%_, _^_, _≤_}
+use Prim.Native.Nat.{ℕ, _*_, _%_, _^_, _≤_, _<_}
 use native.Mathlib.Omega.{arith}
-use mathlib.Core.Path.{_≡_, refl, sym, _∙_}
+use mathlib.Core.Path.{_≡_, refl, sym, ap, _∙_}
 use mathlib.Core.Bool.{Bool, true, false, _&&_, not}
 use mathlib.Core.List.{List, [], _∷_}
-use lib.ListN.{length, take}
-use lib.Seq.{length-take-le}
+use lib.ListN.{length, getD}
 use lib.Dec.{ltb, leb, eqb}
-use borrow.Author.Tests.{lt-ltb, ltb-true, le-leb, eq-eqb, ne-eqb, not-true, not-false}
+use borrow.Author.Tests.{lt-ltb, le-ltb, ltb-true, le-leb, leb-true, eq-eqb, ne-eqb, not-true, not-false}
 use Rattle.lists.specs.Rows.{all, findIx}
+use Rattle.lists.proofs.All.{from-all, all-at}
 use Rattle.areas.specs.declared.Area.{Area}
 use Rattle.areas.specs.Area.{inside, apart}
-use Rattle.areas.proofs.Tests.{split, join}
+use Rattle.areas.proofs.Tests.{and-right, split, join}
 use Rattle.guest.specs.declared.Memory.{Memory}
+use Rattle.guest.specs.declared.Tables.{Tables}
 use Rattle.guest.specs.Machine.{Machine}
-use Rattle.rules.specs.Rules.{memoryArea}
+use Rattle.layout.specs.Layout.{memoryOf, tablesOf, decode}
+use Rattle.rules.specs.Rules.{memoryArea, rules}
+use Rattle.rules.proofs.Facts.{sound-devices, sound-collections}
 use Rattle.rules.proofs.Rows.{all-weaker}
 use Rattle.mapping.specs.declared.Device.{Device}
 use Rattle.mapping.specs.declared.Collection.{Collection}
 use Rattle.mapping.specs.declared.Event.{Event}
-use Rattle.mapping.specs.Mapped.{Mapped, rising, deviceKey, collectionKey, eventKey, ittArea}
+use Rattle.mapping.specs.Mapped.{Mapped, rising, deviceKey, collectionKey, eventKey, findKey, ittArea, noDevice}
 use Rattle.mapping.specs.Commands.{deviceEntries, tableAreas, hasDevice, deviceOf, hasCollection, isEmpty}
 use Rattle.mapping.specs.MapRules.{collectionOk, deviceOk, eventOk, mappingOk, mapRules, smallDevice}
 use Rattle.its.specs.Forms.{isFormed, isLpi}
+use Rattle.mapkept.proofs.Rising.{find-row}
 
 -- what a call said of a test, where its answer led on or back
 pub passed : {b t : Bool} → b ≡ t → not b ≡ false → t ≡ true
@@ -44,7 +48,7 @@ isCollection vcpus c = ltb (c .icid) 65536 && ltb (c .pe) vcpus
 abbrev pub isDevice : Memory → ℕ → Device → Bool
 isDevice memory entries d = isFormed entries d && inside (memoryArea memory) (ittArea d)
 
-pub collections-same : (m : Machine) (vcpus : ℕ) (l : List Collection) {b : Bool} → length (m .vcpus) ≡ vcpus → b ≡ all (isCollection vcpus) l → b ≡ all (collectionOk m) l
+pub collections-same : (m : Machine) (vcpus : ℕ) (l : List Collection) {b : Bool} → vcpus ≡ length (m .vcpus) → b ≡ all (isCollection vcpus) l → b ≡ all (collectionOk m) l
 unfolding collectionOk
 collections-same m vcpus l e q = q ∙ all-same (isCollection vcpus) (collectionOk m) at l
   where
@@ -52,9 +56,10 @@ collections-same m vcpus l e q = q ∙ all-same (isCollection vcpus) (collection
     at c = rw e
 
 -- the tests of a device's form come first, and then its place
-pub devices-same : (m : Machine) (l : List Device) {b : Bool} → b ≡ all (isDevice (m .memory) (deviceEntries m)) l → b ≡ all (deviceOk m) l
+pub devices-same : (m : Machine) (memory : Memory) (t : Tables) (l : List Device) {b : Bool} → memory ≡ m .memory → t ≡ m .tables
+    → b ≡ all (isDevice memory (512 * t .devices .pages)) l → b ≡ all (deviceOk m) l
 unfolding deviceOk
-devices-same m l q = q ∙ all-same (isDevice (m .memory) (deviceEntries m)) (deviceOk m) at l
+devices-same m memory t l e f q = q ∙ rw (e, f) (all-same (isDevice (m .memory) (deviceEntries m)) (deviceOk m) at l)
   where
     regroup : (a b c e f : Bool) → ((a && ((b && c) && e)) && f) ≡ (a && (b && (c && (e && f))))
     regroup true true true e f = refl
@@ -80,12 +85,31 @@ devices-small m l h e = all-weaker (deviceOk m) smallDevice small l e
 pub inside-same : (whole a a′ : Area) {b : Bool} → a ≡ a′ → b ≡ inside whole a → b ≡ inside whole a′
 inside-same whole a a′ e q = rw (← e) q
 
-pub apart-same : (l l′ : List Area) {b : Bool} → l ≡ l′ → b ≡ apart l → b ≡ apart l′
-apart-same l l′ e q = rw (← e) q
+-- a row that was read has few bits where every row has
+pub bits-few : (l : List Device) (i : ℕ) {d : Device} → all smallDevice l ≡ true → i < length l → d ≡ getD l i noDevice → d .bits ≤ 16
+bits-few l i a h e =
+    let x = getD l i noDevice in
+    rw e (leb-true (x .bits) 16 (and-right (ltb (x .id) 65536) (leb (x .bits) 16) (all-at l i noDevice (from-all smallDevice l a) h)))
 
--- a search among the first n of an array ended before n where a row passes
-pub found-same : {A : Type 0} (p : A → Bool) (n : ℕ) (l : List A) → n ≤ length l → (at : ℕ) → at ≡ findIx p (take n l) → ltb at n ≡ ltb (findIx p (take n l)) (length (take n l))
-found-same p n l r at e = rw (← e, length-take-le n l r)
+-- a row that has the ID is the one that a search finds, since no other has it
+pub row-sought : (l : List Device) (i id : ℕ) {d : Device} → rising deviceKey l ≡ true → i < length l → d ≡ getD l i noDevice → d .id ≡ id → i ≡ findKey deviceKey id l
+row-sought l i id r h e q = sym (ap (λ (k : ℕ). findKey deviceKey k l) (sym q ∙ ap deviceKey e) ∙ find-row deviceKey l i noDevice r h)
+
+-- the bits of the row that was read are those of the device that was sought
+pub bits-sought : (l : List Device) (id : ℕ) {at ids : ℕ} {d : Device} → at ≡ findKey deviceKey id l → d ≡ getD l at noDevice → ids ≡ 2 ^ d .bits
+    → ids ≡ 2 ^ getD l (findKey deviceKey id l) noDevice .bits
+bits-sought l id p e q = q ∙ ap (λ (x : Device). 2 ^ x .bits) e ∙ ap (λ (i : ℕ). 2 ^ getD l i noDevice .bits) p
+
+-- a search ended at a row or past the last one
+module _ {A : Type 0} (p : A → Bool) (l : List A) {at n : ℕ} (e : at ≡ findIx p l) (f : n ≡ length l) where
+  pub found-same : ltb at n ≡ ltb (findIx p l) (length l)
+  found-same = rw (e, f)
+
+  pub found : at < n → ltb (findIx p l) (length l) ≡ true
+  found h = sym found-same ∙ lt-ltb at n h
+
+  pub not-found : n ≤ at → ltb (findIx p l) (length l) ≡ false
+  not-found h = sym found-same ∙ le-ltb at n h
 
 -- an event: the first test that fails decides, or the last
 module _ (k : Mapped) (e : Event) where
@@ -99,7 +123,7 @@ module _ (k : Mapped) (e : Event) where
     event-large b = rw (d, b)
 
     module _ (b : ltb (e .event) (2 ^ deviceOf (e .device) k .bits) ≡ true) where
-      pub event-lpi : eventOk k e ≡ (isLpi (e .lpi) && hasCollection (e .icid) k)
+      event-lpi : eventOk k e ≡ (isLpi (e .lpi) && hasCollection (e .icid) k)
       unfolding eventOk
       event-lpi = rw (d, b) (at (leb 8192 (e .lpi)) (leb (e .lpi) 65535) (hasCollection (e .icid) k))
         where
@@ -113,14 +137,32 @@ module _ (k : Mapped) (e : Event) where
       pub event-last : {r : Bool} → isLpi (e .lpi) ≡ true → r ≡ hasCollection (e .icid) k → r ≡ eventOk k e
       event-last l q = rw (event-lpi, l) q
 
+-- where tables are placed and where memory lies, as they are read from the bytes
+module _ (s : List ℕ) where
+  pub memory-read : {r : Memory} → r ≡ memoryOf s → r ≡ decode s .memory
+  unfolding decode
+  memory-read e = e
+
+  pub tables-read : {t : Tables} → t ≡ tablesOf s → t ≡ decode s .tables
+  unfolding decode
+  tables-read e = e
+
+  pub pages-few : {t : Tables} → rules (decode s) ≡ true → t ≡ tablesOf s → (t .devices .pages ≤ 128) × (t .collections .pages ≤ 128)
+  pages-few r e = rw (tables-read e) (sound-devices (decode s) r .most, sound-collections (decode s) r .most)
+
+-- the rows of every table rise
+module _ (k : Mapped) where
+  abbrev pub rises : Bool
+  rises = rising collectionKey (k .collections) && (rising deviceKey (k .devices) && rising eventKey (k .events))
+
+  pub devices-rise : rises ≡ true → rising deviceKey (k .devices) ≡ true
+  devices-rise e = split (rising collectionKey (k .collections)) (rising deviceKey (k .devices) ∷ rising eventKey (k .events) ∷ []) e .1 .0
+
 -- all rules
 module _ (m : Machine) (k : Mapped) where
   pub unplaced : {b : Bool} → (m .tables .devices .set ≡ 1 → ⊥) → b ≡ isEmpty k → b ≡ mapRules m k
   unfolding mapRules
   unplaced n q = rw (ne-eqb (m .tables .devices .set) 1 n) q
-
-  abbrev pub rises : Bool
-  rises = rising collectionKey (k .collections) && (rising deviceKey (k .devices) && rising eventKey (k .events))
 
   pub record Placed : Type 0 where
     pub set : m .tables .devices .set ≡ 1
@@ -131,7 +173,7 @@ module _ (m : Machine) (k : Mapped) where
   -- the limits hold, and the other tests are left
   module _ (p : Placed) where
     tests : mapRules m k
-        ≡ (rises && (all (collectionOk m) (k .collections) && (all (deviceOk m) (k .devices)
+        ≡ (rises k && (all (collectionOk m) (k .collections) && (all (deviceOk m) (k .devices)
         && (apart (tableAreas m (k .devices)) && all (eventOk k) (k .events)))))
     unfolding mapRules mappingOk
     tests =
@@ -149,10 +191,10 @@ module _ (m : Machine) (k : Mapped) where
         at true false c d = refl
         at false b c d = refl
 
-    pub not-rising : rises ≡ false → false ≡ mapRules m k
+    pub not-rising : rises k ≡ false → false ≡ mapRules m k
     not-rising r = rw (tests, r)
 
-    module _ (r : rises ≡ true) where
+    module _ (r : rises k ≡ true) where
       pub bad-collections : all (collectionOk m) (k .collections) ≡ false → false ≡ mapRules m k
       bad-collections c = rw (tests, r, c)
 

@@ -1,22 +1,35 @@
-// Whether an ITS mapping keeps its rules: the test that its bytes pass before any command goes on.
+// Whether a state's bytes keep the rules of the ITS mapping: the test that they pass before any command goes on. Rows are read where
+// they lie, since copies of the tables would take longer than the tests.
 use areas::Area;
-use guest::Guest;
 use guest::Memory;
+use layout::load_memory;
+use layout::load_tables;
+use layout::vcpu_count;
 use mapping::Collection;
 use mapping::Device;
 use mapping::Event;
-use mapping::Mapping;
+use maplayout::collection_at;
+use maplayout::collection_count;
+use maplayout::device_at;
+use maplayout::device_count;
+use maplayout::event_at;
+use maplayout::event_count;
 ghost use mathlib.Core.Path.{_≡_};
 ghost use mathlib.Core.Bool.{true, _&&_};
+ghost use mathlib.Core.List.{map};
+ghost use Prim.Native.Nat.{_≤_};
+ghost use lib.ListN.{length, drop};
 ghost use lib.Dec.{ltb};
 ghost use Rattle.lists.specs.Rows.{all};
-ghost use Rattle.areas.specs.Area.{inside, apart};
-ghost use Rattle.guest.specs.Machine.{view};
-ghost use Rattle.rules.specs.Rules.{memoryArea, Kept};
-ghost use Rattle.mapping.specs.Mapped.{rows, Within, rising, deviceKey, collectionKey, eventKey, ittArea};
-ghost use Rattle.mapping.specs.Commands.{tableAreas};
-ghost use Rattle.mapping.specs.MapRules.{collectionOk, deviceOk, eventOk, mapRules, smallDevice};
+ghost use Rattle.areas.specs.Area.{inside, strikes, apart};
+ghost use Rattle.layout.specs.Layout.{decode};
+ghost use Rattle.rules.specs.Rules.{memoryArea};
+ghost use Rattle.mapping.specs.Mapped.{rising, deviceKey, collectionKey, eventKey, ittArea};
+ghost use Rattle.mapping.specs.Commands.{tableAreas, indexOfDevice, indexOfCollection, isEmpty};
+ghost use Rattle.mapping.specs.MapRules.{collectionOk, deviceOk, eventOk, mapRules};
+ghost use Rattle.maplayout.specs.MapLayout.{decodeMap, Counted};
 ghost use Rattle.its.specs.Forms.{isFormed};
+ghost use Rattle.mapcheck.specs.Examined.{Examined, Sized};
 
 // Entries of 8 bytes in a page of a table.
 const PAGE_ENTRIES: u64 = 512;
@@ -24,16 +37,30 @@ const PAGE_ENTRIES: u64 = 512;
 // ICIDs are below this.
 const ICIDS: u64 = 65536;
 
-// Whether each collection's ICID is above the one before.
-fn rising_collections(k: Mapping) -> bool
-    requires { ⌜ Within k ⌝ }
-    ensures { λ r. ⌜ r ≡ rising collectionKey (rows k .collections) ⌝ }
+// Whether no row stands.
+fn is_empty(s: &[u8]) -> bool
+    requires { ⌜ Counted (now s) ⌝ }
+    ensures { λ r. ⌜ r ≡ isEmpty (decodeMap (now (s .entry))) ⌝ }
 {
-    let n = k.ncollections;
+    if collection_count(s) != 0 {
+        return false;
+    }
+    if device_count(s) != 0 {
+        return false;
+    }
+    event_count(s) == 0
+}
+
+// Whether each collection's ICID is above the one before.
+fn rising_collections(s: &[u8]) -> bool
+    requires { ⌜ Counted (now s) ⌝ }
+    ensures { λ r. ⌜ r ≡ rising collectionKey (decodeMap (now (s .entry)) .collections) ⌝ }
+{
+    let n = collection_count(s);
     let mut i: usize = 0;
     while i + 1 < n {
-        let a = k.collections[i];
-        let b = k.collections[i + 1];
+        let a = collection_at(s, i);
+        let b = collection_at(s, i + 1);
         if b.icid <= a.icid {
             return false;
         }
@@ -43,15 +70,15 @@ fn rising_collections(k: Mapping) -> bool
 }
 
 // Whether each device's ID is above the one before.
-fn rising_devices(k: Mapping) -> bool
-    requires { ⌜ Within k ⌝ }
-    ensures { λ r. ⌜ r ≡ rising deviceKey (rows k .devices) ⌝ }
+fn rising_devices(s: &[u8]) -> bool
+    requires { ⌜ Counted (now s) ⌝ }
+    ensures { λ r. ⌜ r ≡ rising deviceKey (decodeMap (now (s .entry)) .devices) ⌝ }
 {
-    let n = k.ndevices;
+    let n = device_count(s);
     let mut i: usize = 0;
     while i + 1 < n {
-        let a = k.devices[i];
-        let b = k.devices[i + 1];
+        let a = device_at(s, i);
+        let b = device_at(s, i + 1);
         if b.id <= a.id {
             return false;
         }
@@ -68,15 +95,15 @@ fn event_key(e: Event) -> u64
 }
 
 // Whether each event's key is above the one before.
-fn rising_events(k: Mapping) -> bool
-    requires { ⌜ Within k ⌝ }
-    ensures { λ r. ⌜ r ≡ rising eventKey (rows k .events) ⌝ }
+fn rising_events(s: &[u8]) -> bool
+    requires { ⌜ Counted (now s) ⌝ }
+    ensures { λ r. ⌜ r ≡ rising eventKey (decodeMap (now (s .entry)) .events) ⌝ }
 {
-    let n = k.nevents;
+    let n = event_count(s);
     let mut i: usize = 0;
     while i + 1 < n {
-        let a = k.events[i];
-        let b = k.events[i + 1];
+        let a = event_at(s, i);
+        let b = event_at(s, i + 1);
         if event_key(b) <= event_key(a) {
             return false;
         }
@@ -86,17 +113,17 @@ fn rising_events(k: Mapping) -> bool
 }
 
 // Whether the rows of every table rise, so that no ID stands twice.
-fn rows_rise(k: Mapping) -> bool
-    requires { ⌜ Within k ⌝ }
-    ensures { λ r. ⌜ r ≡ (rising collectionKey (rows k .collections) && (rising deviceKey (rows k .devices) && rising eventKey (rows k .events))) ⌝ }
+fn rows_rise(s: &[u8]) -> bool
+    requires { ⌜ Counted (now s) ⌝ }
+    ensures { λ r. ⌜ r ≡ (rising collectionKey (decodeMap (now (s .entry)) .collections) && (rising deviceKey (decodeMap (now (s .entry)) .devices) && rising eventKey (decodeMap (now (s .entry)) .events))) ⌝ }
 {
-    if !rising_collections(k) {
+    if !rising_collections(s) {
         return false;
     }
-    if !rising_devices(k) {
+    if !rising_devices(s) {
         return false;
     }
-    rising_events(k)
+    rising_events(s)
 }
 
 // A collection is for one of the VCPUs.
@@ -109,17 +136,15 @@ fn collection_ok(vcpus: u64, c: Collection) -> bool
     c.pe < vcpus
 }
 
-fn collections_ok(g: Guest, k: Mapping) -> bool
-    requires { ⌜ Kept g ⌝ }
-    requires { ⌜ Within k ⌝ }
-    ensures { λ r. ⌜ r ≡ all (collectionOk (view g)) (rows k .collections) ⌝ }
+fn collections_ok(s: &[u8]) -> bool
+    requires { ⌜ Examined (now s) ⌝ }
+    ensures { λ r. ⌜ r ≡ all (collectionOk (decode (now (s .entry)))) (decodeMap (now (s .entry)) .collections) ⌝ }
 {
-    let vcpus = g.vcpus.count as u64;
-    let n = k.ncollections;
+    let vcpus = vcpu_count(s) as u64;
+    let n = collection_count(s);
     let mut i: usize = 0;
     while i < n {
-        let c = k.collections[i];
-        if !collection_ok(vcpus, c) {
+        if !collection_ok(vcpus, collection_at(s, i)) {
             return false;
         }
         i += 1;
@@ -141,18 +166,17 @@ fn device_ok(memory: Memory, entries: u64, d: Device) -> bool
     areas::inside(run, its::itt_area(d))
 }
 
-fn devices_ok(g: Guest, k: Mapping) -> bool
-    requires { ⌜ Kept g ⌝ }
-    requires { ⌜ Within k ⌝ }
-    ensures { λ r. ⌜ r ≡ all (deviceOk (view g)) (rows k .devices) ⌝ }
+fn devices_ok(s: &[u8]) -> bool
+    requires { ⌜ Examined (now s) ⌝ }
+    ensures { λ r. ⌜ r ≡ all (deviceOk (decode (now (s .entry)))) (decodeMap (now (s .entry)) .devices) ⌝ }
 {
-    let memory = g.memory;
-    let entries = PAGE_ENTRIES * g.tables.devices.pages;
-    let n = k.ndevices;
+    let memory = load_memory(s);
+    let tables = load_tables(s);
+    let entries = PAGE_ENTRIES * tables.devices.pages;
+    let n = device_count(s);
     let mut i: usize = 0;
     while i < n {
-        let d = k.devices[i];
-        if !device_ok(memory, entries, d) {
+        if !device_ok(memory, entries, device_at(s, i)) {
             return false;
         }
         i += 1;
@@ -160,50 +184,135 @@ fn devices_ok(g: Guest, k: Mapping) -> bool
     true
 }
 
-// Whether no two of the tables in memory overlap, the devices' ITTs among them.
-fn tables_apart(g: Guest, k: Mapping) -> bool
-    requires { ⌜ Kept g ⌝ }
-    requires { ⌜ Within k ⌝ }
-    requires { ⌜ all smallDevice (rows k .devices) ≡ true ⌝ }
-    ensures { λ r. ⌜ r ≡ apart (tableAreas (view g) (rows k .devices)) ⌝ }
+// Whether an area overlaps the ITT of one of the devices from `from` on.
+fn strikes_itts(s: &[u8], from: usize, a: Area) -> bool
+    requires { ⌜ Sized (now s) × (from ≤ length (decodeMap (now s) .devices)) ⌝ }
+    ensures { λ r. ⌜ r ≡ strikes (map ittArea (drop from (decodeMap (now (s .entry)) .devices))) a ⌝ }
 {
-    let devices = g.tables.devices;
-    let collections = g.tables.collections;
-    let first = areas::with_area(areas::none(), its::table_area(devices));
-    let second = areas::with_area(first, its::table_area(collections));
-    areas::apart(its::with_itts(second, k))
+    let n = device_count(s);
+    let mut i = from;
+    while i < n {
+        if areas::overlaps(a, its::itt_area(device_at(s, i))) {
+            return true;
+        }
+        i += 1;
+    }
+    false
 }
 
-// Whether an event's device and collection stand, and its numbers are in their ranges.
-fn event_ok(k: Mapping, e: Event) -> bool
-    requires { ⌜ Within k ⌝ }
-    requires { ⌜ all smallDevice (rows k .devices) ≡ true ⌝ }
-    ensures { λ r. ⌜ r ≡ eventOk (rows k) e ⌝ }
+// Whether no two ITTs overlap: each is compared with those after it.
+fn itts_apart(s: &[u8]) -> bool
+    requires { ⌜ Sized (now s) ⌝ }
+    ensures { λ r. ⌜ r ≡ apart (map ittArea (decodeMap (now (s .entry)) .devices)) ⌝ }
 {
-    let at = mapping::find_device(k, e.device as u64);
-    if k.ndevices <= at {
+    let n = device_count(s);
+    let mut i: usize = 0;
+    while i < n {
+        let a = its::itt_area(device_at(s, i));
+        if strikes_itts(s, i + 1, a) {
+            return false;
+        }
+        i += 1;
+    }
+    true
+}
+
+// Whether no two of the tables in memory overlap, the devices' ITTs among them. That the device table and the collection table do
+// not is one of the guest's own rules.
+fn tables_apart(s: &[u8]) -> bool
+    requires { ⌜ Examined (now s) × Sized (now s) ⌝ }
+    ensures { λ r. ⌜ r ≡ apart (tableAreas (decode (now (s .entry))) (decodeMap (now (s .entry)) .devices)) ⌝ }
+{
+    let tables = load_tables(s);
+    let devices = tables.devices;
+    let collections = tables.collections;
+    if strikes_itts(s, 0, its::table_area(devices)) {
         return false;
     }
-    let d = k.devices[at];
+    if strikes_itts(s, 0, its::table_area(collections)) {
+        return false;
+    }
+    itts_apart(s)
+}
+
+// The index of the device of an ID, or the number of devices.
+fn find_device(s: &[u8], id: u64) -> usize
+    requires { ⌜ Counted (now s) ⌝ }
+    ensures { λ r. ⌜ r ≡ indexOfDevice id (decodeMap (now (s .entry))) ⌝ }
+{
+    let n = device_count(s);
+    let mut i: usize = 0;
+    while i < n {
+        let d = device_at(s, i);
+        if d.id == id {
+            return i;
+        }
+        i += 1;
+    }
+    n
+}
+
+// The same, by one look where the device at the index `likely` has the ID: rows rise, so no other row has it.
+fn device_index(s: &[u8], likely: usize, id: u64) -> usize
+    requires { ⌜ Counted (now s) × (rising deviceKey (decodeMap (now s) .devices) ≡ true) ⌝ }
+    ensures { λ r. ⌜ r ≡ indexOfDevice id (decodeMap (now (s .entry))) ⌝ }
+{
+    if likely < device_count(s) {
+        let d = device_at(s, likely);
+        if d.id == id {
+            return likely;
+        }
+    }
+    find_device(s, id)
+}
+
+// The index of the collection of an ICID, or the number of collections.
+fn find_collection(s: &[u8], icid: u64) -> usize
+    requires { ⌜ Counted (now s) ⌝ }
+    ensures { λ r. ⌜ r ≡ indexOfCollection icid (decodeMap (now (s .entry))) ⌝ }
+{
+    let n = collection_count(s);
+    let mut i: usize = 0;
+    while i < n {
+        let c = collection_at(s, i);
+        if c.icid == icid {
+            return i;
+        }
+        i += 1;
+    }
+    n
+}
+
+// Whether an event's device, sought to the index `at`, and its collection stand, and its numbers are in their ranges.
+fn event_ok(s: &[u8], at: usize, e: Event) -> bool
+    requires { ⌜ Sized (now s) × (at ≡ indexOfDevice (e .device) (decodeMap (now s))) ⌝ }
+    ensures { λ r. ⌜ r ≡ eventOk (decodeMap (now (s .entry))) e ⌝ }
+{
+    if device_count(s) <= at {
+        return false;
+    }
+    let d = device_at(s, at);
     if its::event_ids(d.bits) <= e.event as u64 {
         return false;
     }
     if !its::is_lpi(e.lpi as u64) {
         return false;
     }
-    mapping::find_collection(k, e.icid as u64) < k.ncollections
+    find_collection(s, e.icid as u64) < collection_count(s)
 }
 
-fn events_ok(k: Mapping) -> bool
-    requires { ⌜ Within k ⌝ }
-    requires { ⌜ all smallDevice (rows k .devices) ≡ true ⌝ }
-    ensures { λ r. ⌜ r ≡ all (eventOk (rows k)) (rows k .events) ⌝ }
+// Events rise by device, so that an event's device is most often that of the event before.
+fn events_ok(s: &[u8]) -> bool
+    requires { ⌜ Sized (now s) × (rising deviceKey (decodeMap (now s) .devices) ≡ true) ⌝ }
+    ensures { λ r. ⌜ r ≡ all (eventOk (decodeMap (now (s .entry)))) (decodeMap (now (s .entry)) .events) ⌝ }
 {
-    let n = k.nevents;
+    let n = event_count(s);
+    let mut at: usize = 0;
     let mut i: usize = 0;
     while i < n {
-        let e = k.events[i];
-        if !event_ok(k, e) {
+        let e = event_at(s, i);
+        at = device_index(s, at, e.device as u64);
+        if !event_ok(s, at, e) {
             return false;
         }
         i += 1;
@@ -211,27 +320,27 @@ fn events_ok(k: Mapping) -> bool
     true
 }
 
-// Whether a mapping keeps every rule beside a guest that keeps its own. Where no tables are placed it is empty. The devices are
-// tested before the ITTs and the events, whose tests rely on each device's bits.
-pub fn keeps_map_rules(g: Guest, k: Mapping) -> bool
-    requires { ⌜ Kept g ⌝ }
-    requires { ⌜ Within k ⌝ }
-    ensures { λ r. ⌜ r ≡ mapRules (view g) (rows k) ⌝ }
+// Whether the mapping keeps every rule beside a guest that keeps its own. Where no tables are placed it is empty. The devices are
+// tested before the ITTs and the events, whose tests rely on each device's bits and on rising IDs.
+pub fn keeps_map_rules(s: &[u8]) -> bool
+    requires { ⌜ Examined (now s) ⌝ }
+    ensures { λ r. ⌜ r ≡ mapRules (decode (now (s .entry))) (decodeMap (now (s .entry))) ⌝ }
 {
-    if g.tables.devices.set != 1 {
-        return its::is_empty(k);
+    let tables = load_tables(s);
+    if tables.devices.set != 1 {
+        return is_empty(s);
     }
-    if !rows_rise(k) {
+    if !rows_rise(s) {
         return false;
     }
-    if !collections_ok(g, k) {
+    if !collections_ok(s) {
         return false;
     }
-    if !devices_ok(g, k) {
+    if !devices_ok(s) {
         return false;
     }
-    if !tables_apart(g, k) {
+    if !tables_apart(s) {
         return false;
     }
-    events_ok(k)
+    events_ok(s)
 }

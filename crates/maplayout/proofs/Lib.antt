@@ -4,3 +4,7 @@ pub mod Stored
 pub mod Alike
 pub mod Round
 pub mod Typed
+pub mod InPlace
+pub mod Shift
+pub mod Puts
+pub mod Added

@@ -1,1 +1,2 @@
 pub mod MapLayout
+pub mod Added

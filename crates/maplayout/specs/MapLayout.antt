@@ -2,11 +2,13 @@
 -- from 2,376: devices, three words of 8 bytes each, room for 32; from 3,144: collections, two words of 2 bytes each, room for 16; from
 -- 3,208: events, four words of 2 bytes each, room for 1,024. What lies past a table's last row is never read, and stays as it is.
 use Prim.Native.Nat.{ℕ}
-use mathlib.Core.Bool.{Bool, _&&_}
+use mathlib.Core.Path.{_≡_}
+use mathlib.Core.Bool.{Bool, true, _&&_}
 use mathlib.Core.List.{List, [], _∷_}
 use lib.ListN.{length, drop}
 use lib.Dec.{leb}
 use Rattle.words.specs.Words.{leAt, bytesOf, rowsOf, bytesAll, putAt}
+use Rattle.layout.specs.Layout.{size}
 use Rattle.mapping.specs.declared.Device.{Device}
 use Rattle.mapping.specs.declared.Collection.{Collection}
 use Rattle.mapping.specs.declared.Event.{Event}
@@ -64,3 +66,8 @@ storedMap k s =
 -- the numbers of rows are within the room for them
 unfoldable pub mapCountsOk : List ℕ → Bool
 mapCountsOk s = leb (leAt s 2352 8) 32 && (leb (leAt s 2360 8) 16 && leb (leAt s 2368 8) 1024)
+
+-- bytes of a state's length whose numbers of rows fit: what reading a row asks
+pub record Counted (s : List ℕ) : Type 0 where
+  pub long : length s ≡ size
+  pub counts : mapCountsOk s ≡ true

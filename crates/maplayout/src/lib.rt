@@ -11,11 +11,12 @@ ghost use mathlib.Core.Path.{_≡_};
 ghost use mathlib.Core.Bool.{true};
 ghost use mathlib.Core.List.{[], _∷_};
 ghost use Prim.Native.Nat.{_+_, _*_, _≤_, _<_};
-ghost use lib.ListN.{length, take, drop};
+ghost use lib.ListN.{length, take, drop, getD};
 ghost use Rattle.words.specs.Words.{rowsOf, bytesAll, bytesOf, putAt};
 ghost use Rattle.layout.specs.Layout.{size};
-ghost use Rattle.mapping.specs.Mapped.{rows, Within};
-ghost use Rattle.maplayout.specs.MapLayout.{deviceOf, deviceBytes, collectionOf, collectionBytes, eventOf, eventBytes, decodeMap, storedMap, mapCountsOk};
+ghost use Rattle.mapping.specs.Mapped.{rows, Within, empty, noDevice, noCollection, noEvent};
+ghost use Rattle.maplayout.specs.MapLayout.{deviceOf, deviceBytes, collectionOf, collectionBytes, eventOf, eventBytes, decodeMap, storedMap, mapCountsOk, Counted};
+ghost use Rattle.maplayout.specs.Added.{deviceAdded, collectionAdded, eventAdded};
 
 fn load_device(s: &[u8], at: usize) -> Device
     requires { ⌜ at + 24 ≤ length (now s) ⌝ }
@@ -182,6 +183,49 @@ pub fn map_counts_ok(s: &[u8]) -> bool
     get64(s, 2368) <= 1024
 }
 
+// The numbers of rows and the rows one by one, read where they lie: a test of the bytes, or a save, need not load the tables.
+pub fn device_count(s: &[u8]) -> usize
+    requires { ⌜ Counted (now s) ⌝ }
+    ensures { λ r. ⌜ r ≡ length (decodeMap (now (s .entry)) .devices) ⌝ }
+{
+    get64(s, 2352) as usize
+}
+
+pub fn collection_count(s: &[u8]) -> usize
+    requires { ⌜ Counted (now s) ⌝ }
+    ensures { λ r. ⌜ r ≡ length (decodeMap (now (s .entry)) .collections) ⌝ }
+{
+    get64(s, 2360) as usize
+}
+
+pub fn event_count(s: &[u8]) -> usize
+    requires { ⌜ Counted (now s) ⌝ }
+    ensures { λ r. ⌜ r ≡ length (decodeMap (now (s .entry)) .events) ⌝ }
+{
+    get64(s, 2368) as usize
+}
+
+pub fn device_at(s: &[u8], i: usize) -> Device
+    requires { ⌜ Counted (now s) × (i < length (decodeMap (now s) .devices)) ⌝ }
+    ensures { λ r. ⌜ r ≡ getD (decodeMap (now (s .entry)) .devices) i noDevice ⌝ }
+{
+    load_device(s, 2376 + i * 24)
+}
+
+pub fn collection_at(s: &[u8], i: usize) -> Collection
+    requires { ⌜ Counted (now s) × (i < length (decodeMap (now s) .collections)) ⌝ }
+    ensures { λ r. ⌜ r ≡ getD (decodeMap (now (s .entry)) .collections) i noCollection ⌝ }
+{
+    load_collection(s, 3144 + i * 4)
+}
+
+pub fn event_at(s: &[u8], i: usize) -> Event
+    requires { ⌜ Counted (now s) × (i < length (decodeMap (now s) .events)) ⌝ }
+    ensures { λ r. ⌜ r ≡ getD (decodeMap (now (s .entry)) .events) i noEvent ⌝ }
+{
+    load_event(s, 3208 + i * 8)
+}
+
 // The mapping that the bytes hold.
 pub fn load_mapping(s: &[u8]) -> Mapping
     requires { ⌜ (length (now s) ≡ size) × (mapCountsOk (now s) ≡ true) ⌝ }
@@ -218,4 +262,55 @@ pub fn store_mapping(s: &mut [u8], k: Mapping)
         k.ncollections as u64,
         k.nevents as u64,
     );
+}
+
+// The mapping's bytes grown one row at a time, for a reader of tables that holds no mapping of its own.
+pub fn store_empty(s: &mut [u8])
+    requires { ⌜ length (now s) ≡ size ⌝ }
+    ensures { λ _. ⌜ now (s .exit) ≡ storedMap empty (now (s .entry)) ⌝ }
+{
+    store_three(s, 2352, 0, 0, 0);
+}
+
+pub fn add_device(s: &mut [u8], d: Device)
+    requires { ⌜ Counted (now s) × (length (decodeMap (now s) .devices) < 32) ⌝ }
+    ensures { λ _. ⌜ now (s .exit) ≡ deviceAdded d (now (s .entry)) ⌝ }
+{
+    let n = device_count(s);
+    store_device(s, 2376 + n * 24, d);
+    put64(s, 2352, (n + 1) as u64);
+}
+
+// The collections from the index on move up by one: each makes room for the one before it.
+fn shift_collections(s: &mut [u8], i: usize, n: usize, c: Collection)
+    requires { ⌜ Counted (now s) × (i ≤ n) × (n ≡ length (decodeMap (now s) .collections)) × (n < 16) ⌝ }
+    ensures { λ _. ⌜ now (s .exit) ≡ putAt (now (s .entry)) (3144 + i * 4) (bytesAll collectionBytes (c ∷ drop i (decodeMap (now (s .entry)) .collections))) ⌝ }
+{
+    let mut carry = c;
+    let mut j = i;
+    while j < n {
+        let row = load_collection(s, 3144 + j * 4);
+        store_collection(s, 3144 + j * 4, carry);
+        carry = row;
+        j += 1;
+    }
+    store_collection(s, 3144 + n * 4, carry);
+}
+
+pub fn insert_collection(s: &mut [u8], i: usize, c: Collection)
+    requires { ⌜ Counted (now s) × (i ≤ length (decodeMap (now s) .collections)) × (length (decodeMap (now s) .collections) < 16) ⌝ }
+    ensures { λ _. ⌜ now (s .exit) ≡ collectionAdded i c (now (s .entry)) ⌝ }
+{
+    let n = collection_count(s);
+    shift_collections(s, i, n, c);
+    put64(s, 2360, (n + 1) as u64);
+}
+
+pub fn add_event(s: &mut [u8], e: Event)
+    requires { ⌜ Counted (now s) × (length (decodeMap (now s) .events) < 1024) ⌝ }
+    ensures { λ _. ⌜ now (s .exit) ≡ eventAdded e (now (s .entry)) ⌝ }
+{
+    let n = event_count(s);
+    store_event(s, 3208 + n * 8, e);
+    put64(s, 2368, (n + 1) as u64);
 }

@@ -2,37 +2,29 @@
 use Prim.Native.Nat.{ℕ, _<_}
 use native.Mathlib.Omega.{arith}
 use mathlib.Core.Path.{_≡_, refl, sym, _∙_}
-use borrow.Author.Tests.{eq-eqb, ne-eqb}
-use Rattle.mapping.specs.declared.Mapping.{Mapping}
-use Rattle.mapping.specs.declared.Remapped.{Remapped}
-use Rattle.mapping.specs.Mapped.{Mapped, Within, rows}
+use mathlib.Core.List.{List}
+use Rattle.mapping.specs.Mapped.{Mapped}
 use Rattle.tables.specs.Restored.{Out, fault, found, andThen}
-use Rattle.restore.specs.Reads.{outOf, Reads}
+use Rattle.restore.specs.Begun.{Over, Gives}
 
-out-found : (o : Remapped) → o .errno ≡ 0 → outOf o ≡ found (rows (o .mapping))
-unfolding outOf
-out-found o e = rw (eq-eqb (o .errno) 0 e)
+module _ {s₀ : List ℕ} {out : Out} {s : List ℕ} where
+  pub gives-fault : (e : ℕ) → 0 < e → fault e ≡ out → Gives s₀ out e s
+  gives-fault e h p = record { stops = λ n. sym p; reads = λ z. absurd (omega arith) }
 
-out-fault : (o : Remapped) → (o .errno ≡ 0 → ⊥) → outOf o ≡ fault (o .errno)
-unfolding outOf
-out-fault o n = rw (ne-eqb (o .errno) 0 n)
+  pub gives-found : (k : Mapped) → Over s₀ k s → found k ≡ out → Gives s₀ out 0 s
+  gives-found k o p = record { stops = λ n. absurd (n refl); reads = λ z. (k, sym p, o) }
 
-pub reads-found : (k : Mapping) → Within k → Reads (record { errno = 0; mapping = k }) (found (rows k))
-reads-found k w = record { is = out-found (record { errno = 0; mapping = k }) refl; within = w }
+  module _ {r : ℕ} (v : Gives s₀ out r s) where
+    pub gives-as : {to : Out} → out ≡ to → Gives s₀ to r s
+    gives-as p = record {
+      stops = λ n. sym p ∙ v .stops n;
+      reads = λ z. (v .reads z .0, sym p ∙ v .reads z .1, v .reads z .2);
+    }
 
-pub reads-fault : (k : Mapping) (errno : ℕ) → Within k → 0 < errno → Reads (record { errno = errno; mapping = k }) (fault errno)
-reads-fault k errno w h = record { is = out-fault (record { errno = errno; mapping = k }) (λ z. omega arith); within = w }
+    -- a fault is the whole answer
+    pub stopped : (r ≡ 0 → ⊥) → (f : Mapped → Out) → Gives s₀ (andThen out f) r s
+    stopped n f = gives-as (v .stops n ∙ rw (v .stops n))
 
-pub reads-as : {o : Remapped} {r s : Out} → Reads o r → r ≡ s → Reads o s
-reads-as v e = record { is = v .is ∙ e; within = v .within }
-
--- a fault is the whole answer
-pub stopped : (o : Remapped) (r : Out) (f : Mapped → Out) → Reads o r → (o .errno ≡ 0 → ⊥) → r ≡ andThen r f
-stopped o r f v n = rw (sym (v .is) ∙ out-fault o n)
-
--- with no fault the mapping goes on
-pub went : (o : Remapped) (r : Out) (f : Mapped → Out) → Reads o r → o .errno ≡ 0 → andThen r f ≡ f (rows (o .mapping))
-went o r f v e = rw (sym (v .is) ∙ out-found o e)
-
-pub went-found : (o : Remapped) (r : Out) → Reads o r → o .errno ≡ 0 → r ≡ found (rows (o .mapping))
-went-found o r v e = sym (v .is) ∙ out-found o e
+    -- with no fault the mapping goes on
+    pub went : (z : r ≡ 0) (f : Mapped → Out) → andThen out f ≡ f (v .reads z .0)
+    went z f = rw (v .reads z .1)

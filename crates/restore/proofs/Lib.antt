@@ -1,10 +1,10 @@
+pub mod Over
 pub mod Answers
-pub mod Counts
 pub mod Inside
 pub mod Both
-pub mod Collections
 pub mod Walk
+pub mod Searches
+pub mod Collections
 pub mod Events
 pub mod Devices
-pub mod Sizes
 pub mod Whole

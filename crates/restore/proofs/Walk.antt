@@ -10,13 +10,15 @@ use Rattle.chains.specs.declared.Next.{Next}
 use Rattle.chains.specs.declared.Next.the-variants.{Last, At, Bad}
 use Rattle.chains.specs.Slots.{Slots, Path, onward, path, firstFrom, following, Link}
 use Rattle.chains.proofs.Way.{led}
-use Rattle.mapping.specs.declared.Remapped.{Remapped}
-use Rattle.mapping.specs.Mapped.{Mapped, rows}
+use Rattle.guest.specs.Machine.{Machine}
+use Rattle.mapping.specs.Mapped.{Mapped}
+use Rattle.layout.specs.Layout.{decode}
 use Rattle.tables.specs.Restored.{Out, fault, found, andThen, run, walk}
 use Rattle.restore.specs.Both.{slotsOf}
 use Rattle.restore.proofs.Both.{cap-pos, next-small}
-use Rattle.restore.specs.Reads.{Reads}
-use Rattle.restore.proofs.Answers.{reads-as, stopped, went}
+use Rattle.restore.specs.Begun.{Over, Begun, Steps}
+use Rattle.restore.proofs.Over.{same-guest}
+use Rattle.restore.proofs.Answers.{gives-fault, gives-found, gives-as, stopped, went}
 
 unfolds : (T : Slots) (fuel i : ℕ) → i < T .size → T .size ≤ i + fuel → (n : Next) → n ≡ following T i → path T fuel i ≡ onward i (path T (fuel - 1)) n
 unfolding path
@@ -33,7 +35,7 @@ module _ (device : Bool) (t : List ℕ) (visit : ℕ → Mapped → Out) (answer
     pub rest : run visit (path (slotsOf device t) fuel i) k ≡ answer
 
   module _ (k : Mapped) (e : walk (slotsOf device t) visit k ≡ answer) (i : ℕ) (f : i ≡ firstFrom (slotsOf device t) 0) where
-    pub go-start : i < length t / 8 → Going i k
+    go-start : i < length t / 8 → Going i k
     unfolding walk slotsOf
     go-start h = record {
       fuel = length t / 8;
@@ -42,7 +44,7 @@ module _ (device : Bool) (t : List ℕ) (visit : ℕ → Mapped → Out) (answer
       rest = rw (← f, lt-ltb i (length t / 8) h) at e;
     }
 
-    pub go-none : length t / 8 ≤ i → found k ≡ answer
+    go-none : length t / 8 ≤ i → found k ≡ answer
     unfolding walk slotsOf
     go-none h = rw (← f, le-ltb i (length t / 8) h) at e
 
@@ -51,33 +53,88 @@ module _ (device : Bool) (t : List ℕ) (visit : ℕ → Mapped → Out) (answer
     unfolding slotsOf
     after = ap (λ (p : Path). run visit p k) (sym (unfolds (slotsOf device t) (g .fuel) i (g .inside) (g .enough) n e)) ∙ g .rest
 
-    pub go-bad : n ≡ Bad → fault 22 ≡ answer
+    go-bad : n ≡ Bad → fault 22 ≡ answer
     unfolding run
     go-bad x = rw x at after
 
-    pub go-last : n ≡ Last → (o : Remapped) → Reads o (visit i k) → Reads o answer
+    go-last : n ≡ Last → visit i k ≡ answer
     unfolding run
-    go-last x o r = reads-as r (rw x at after)
+    go-last x = rw x at after
 
     module _ (j : ℕ) (x : n ≡ At j) where
       link : Link (slotsOf device t) i j
       link = led (slotsOf device t) (cap-pos device t) i j (next-small device t i) (sym e ∙ x)
 
-      next : andThen (visit i k) (run visit (path (slotsOf device t) (g .fuel - 1) j)) ≡ answer
+      go-next : andThen (visit i k) (run visit (path (slotsOf device t) (g .fuel - 1) j)) ≡ answer
       unfolding run
-      next = rw x at after
+      go-next = rw x at after
 
-      pub go-less : length t / 8 - j < length t / 8 - i
+      go-less : length t / 8 - j < length t / 8 - i
       go-less = let u = link .rises in let h = g .inside in omega arith
 
-      module _ (o : Remapped) (r : Reads o (visit i k)) where
-        pub go-fault : (o .errno ≡ 0 → ⊥) → Reads o answer
-        go-fault z = reads-as r (stopped o _ _ r z ∙ next)
+      go-on : (to : Mapped) → andThen (visit i k) (run visit (path (slotsOf device t) (g .fuel - 1) j)) ≡ run visit (path (slotsOf device t) (g .fuel - 1) j) to → Going j to
+      unfolding slotsOf
+      go-on to w =
+          let u = link .rises in
+          let f = g .enough in
+          let h = g .inside in
+          record { fuel = g .fuel - 1; inside = link .inside; enough = omega arith; rest = sym w ∙ go-next }
 
-        pub go-on : o .errno ≡ 0 → Going j (rows (o .mapping))
-        unfolding slotsOf
-        go-on z =
-            let u = link .rises in
-            let f = g .enough in
-            let h = g .inside in
-            record { fuel = g .fuel - 1; inside = link .inside; enough = omega arith; rest = sym (went o _ _ r z) ∙ next }
+-- the bytes at each turn, from s₀ at the start: they hold the mapping that was read so far, and what is left of the path has the answer
+module _ (device : Bool) (t : List ℕ) (visit : Machine → ℕ → Mapped → Out) (whole : Machine → Mapped → Out) where
+  pub record Reached (z : List ℕ) (answer : Out) (i : ℕ) (s : List ℕ) : Type 0 where
+    pub rows : Mapped
+    pub over : Over z rows s
+    pub going : Going device t (visit (decode z)) answer i rows
+
+  abbrev pub Walks : List ℕ → ℕ → List ℕ → Type 0
+  Walks s₀ i s = (z : List ℕ) (k : Mapped) → Over z k s₀ → Reached z (whole (decode z) k) i s
+
+  module _ (e : (m : Machine) (k : Mapped) → walk (slotsOf device t) (visit m) k ≡ whole m k) (s₀ : List ℕ) (i : ℕ) (f : i ≡ firstFrom (slotsOf device t) 0) where
+    pub walk-start : i < length t / 8 → Walks s₀ i s₀
+    walk-start h z k o = record { rows = k; over = o; going = go-start device t (visit (decode z)) _ k (e (decode z) k) i f h }
+
+    pub walk-none : length t / 8 ≤ i → Steps whole s₀ 0 s₀
+    walk-none h z k o = gives-found k o (go-none device t (visit (decode z)) _ k (e (decode z) k) i f h)
+
+  module _ (s₀ : List ℕ) (i : ℕ) (s : List ℕ) (w : Walks s₀ i s) where
+    pub walk-begun : Begun s₀ → Begun s
+    walk-begun b = let r = w (b .from) (b .rows) (b .over) in record { from = b .from; rows = r .rows; over = r .over }
+
+    -- the memory is as long, whatever was read
+    pub walk-memory : Begun s₀ → (n : ℕ) → n ≡ decode s₀ .memory .length → n ≡ decode s .memory .length
+    walk-memory b n e =
+        let r = w (b .from) (b .rows) (b .over) in
+        e ∙ ap (λ (m : Machine). m .memory .length) (same-guest (b .over) ∙ sym (same-guest (r .over)))
+
+    pub walk-inside : Begun s₀ → i < length t / 8
+    walk-inside b = w (b .from) (b .rows) (b .over) .going .inside
+
+    module _ (n : Next) (e : n ≡ following (slotsOf device t) i) where
+      pub walk-bad : n ≡ Bad → Steps whole s₀ 22 s
+      walk-bad x z k o = gives-fault 22 (omega arith) (go-bad device t (visit (decode z)) _ i _ (w z k o .going) n e x)
+
+      module _ (r : ℕ) (u : List ℕ) (v : Steps (λ m. visit m i) s r u) where
+        pub walk-last : n ≡ Last → Steps whole s₀ r u
+        walk-last x z k o =
+            let a = w z k o in
+            gives-as (v z (a .rows) (a .over)) (go-last device t (visit (decode z)) _ i _ (a .going) n e x)
+
+        module _ (j : ℕ) (x : n ≡ At j) where
+          pub walk-fault : (r ≡ 0 → ⊥) → Steps whole s₀ r u
+          walk-fault y z k o =
+              let a = w z k o in
+              gives-as (stopped (v z (a .rows) (a .over)) y _) (go-next device t (visit (decode z)) _ i _ (a .going) n e j x)
+
+          pub walk-on : r ≡ 0 → Walks s₀ j u
+          walk-on y z k o =
+              let a = w z k o in
+              let b = v z (a .rows) (a .over) in
+              record {
+                rows = b .reads y .0;
+                over = b .reads y .2;
+                going = go-on device t (visit (decode z)) _ i _ (a .going) n e j x (b .reads y .0) (went b y _);
+              }
+
+      pub walk-less : Begun s₀ → (j : ℕ) → n ≡ At j → length t / 8 - j < length t / 8 - i
+      walk-less b j x = go-less device t (visit (decode (b .from))) _ i _ (w (b .from) (b .rows) (b .over) .going) n e j x

@@ -1,3 +1,4 @@
-pub mod Reads
 pub mod Parts
+pub mod Begun
+pub mod Restores
 pub mod Both

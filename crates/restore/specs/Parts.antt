@@ -1,20 +1,17 @@
 -- What the parts of a restore ask and say.
 use Prim.Native.Nat.{ℕ, _-_}
-use mathlib.Core.Path.{_≡_}
-use mathlib.Core.Bool.{Bool, true}
+use mathlib.Core.Bool.{Bool}
 use mathlib.Core.List.{List}
 use lib.ListN.{length, take, drop}
 use lib.Dec.{leb}
-use Rattle.lists.specs.Rows.{choose, all}
+use Rattle.lists.specs.Rows.{choose}
 use Rattle.areas.specs.declared.Area.{Area}
 use Rattle.areas.specs.Area.{inside, strikes}
 use Rattle.guest.specs.declared.Memory.{Memory}
-use Rattle.guest.specs.declared.Guest.{Guest}
 use Rattle.guest.specs.Machine.{Machine}
-use Rattle.rules.specs.Rules.{memoryArea, Kept}
+use Rattle.rules.specs.Rules.{memoryArea}
 use Rattle.mapping.specs.declared.Device.{Device}
-use Rattle.mapping.specs.declared.Mapping.{Mapping}
-use Rattle.mapping.specs.Mapped.{Mapped, Within, rows, ittArea}
+use Rattle.mapping.specs.Mapped.{Mapped, ittArea}
 use Rattle.mapping.specs.Commands.{tableAreas}
 
 -- the bytes of an area of a run of memory
@@ -24,17 +21,6 @@ bytesIn r mem a = take (a .size) (drop (a .start - r .start) mem)
 -- at most 16 bits of event ID: the size of the ITT is then a number of the code
 abbrev pub fewBits : Device → Bool
 fewBits d = leb (d .bits) 16
-
--- the mapping that a restore has read so far
-pub record Begun (k : Mapping) : Type 0 where
-  pub within : Within k
-  pub devices : all fewBits (rows k .devices) ≡ true
-
--- what a visit of a device asks of the guest, the mapping so far and the lent memory
-pub record Visiting (g : Guest) (k : Mapping) (mem : List ℕ) : Type 0 where
-  pub guest : Kept g
-  pub begun : Begun k
-  pub memory : length mem ≡ g .memory .length
 
 -- "size -22; 33rd -12; ITT outside memory -14; overlap -22"; 0 for none
 unfoldable pub readFault : Machine → Device → Mapped → ℕ

@@ -1,22 +1,22 @@
-// Where tables lie in memory: their areas, and the bytes of an area.
+// Where tables lie in memory: their areas, the bytes of an area, and whether an area overlaps one of them.
 use areas::Area;
-use areas::Areas;
-use guest::Guest;
 use guest::Memory;
 use guest::Table;
 use mapping::Device;
-use mapping::Mapping;
 ghost use mathlib.Core.Path.{_≡_};
 ghost use mathlib.Core.Bool.{true};
-ghost use mathlib.Core.List.{_++_, map};
-ghost use Prim.Native.Nat.{_+_, _≤_};
+ghost use mathlib.Core.List.{map};
+ghost use Prim.Native.Nat.{_≤_};
 ghost use lib.ListN.{length};
-ghost use Rattle.areas.specs.Area.{areas, inside};
-ghost use Rattle.guest.specs.Machine.{view};
-ghost use Rattle.rules.specs.Rules.{Kept, tableArea, memoryArea};
-ghost use Rattle.mapping.specs.Mapped.{rows, ittArea};
+ghost use Rattle.lists.specs.Rows.{all};
+ghost use Rattle.areas.specs.Area.{inside, strikes};
+ghost use Rattle.rules.specs.Rules.{tableArea, memoryArea};
+ghost use Rattle.mapping.specs.Mapped.{ittArea};
 ghost use Rattle.mapping.specs.Commands.{tableAreas};
-ghost use Rattle.restore.specs.Parts.{bytesIn, Begun};
+ghost use Rattle.layout.specs.Layout.{decode};
+ghost use Rattle.maplayout.specs.MapLayout.{decodeMap, Counted};
+ghost use Rattle.restore.specs.Begun.{Begun};
+ghost use Rattle.restore.specs.Parts.{bytesIn, fewBits};
 
 // The bytes of a page, in which tables are placed.
 const PAGE: u64 = 4096;
@@ -64,28 +64,34 @@ pub fn area_bytes(memory: Memory, a: Area, mem: &[u8]) -> &[u8]
     &mem[from..to]
 }
 
-// A table with the devices' ITTs at its end.
-fn with_itts(t: Areas, k: Mapping) -> Areas
-    requires { ⌜ (t .count ≤ 4) × (Begun k) ⌝ }
-    ensures { λ r. ⌜ (areas r ≡ areas t ++ map ittArea (rows k .devices)) × (r .count ≡ t .count + k .ndevices) ⌝ }
+// Whether an area overlaps a device's ITT.
+fn strikes_itts(s: &[u8], a: Area) -> bool
+    requires { ⌜ (Counted (now s)) × (all fewBits (decodeMap (now s) .devices) ≡ true) ⌝ }
+    ensures { λ r. ⌜ r ≡ strikes (map ittArea (decodeMap (now (s .entry)) .devices)) a ⌝ }
 {
-    let n = k.ndevices;
-    let mut next = t;
+    let n = maplayout::device_count(s);
     let mut i: usize = 0;
     while i < n {
-        let d = k.devices[i];
-        next = areas::with_area(next, itt_area(d));
+        let d = maplayout::device_at(s, i);
+        if areas::overlaps(a, itt_area(d)) {
+            return true;
+        }
         i += 1;
     }
-    next
+    false
 }
 
-// The tables in memory so far: device table, collection table, ITTs by device ID.
-pub fn table_areas(g: Guest, k: Mapping) -> Areas
-    requires { ⌜ (Kept g) × (Begun k) ⌝ }
-    ensures { λ r. ⌜ (areas r ≡ tableAreas (view g) (rows k .devices)) × (r .count ≤ 34) ⌝ }
+// Whether an area overlaps a table in memory: the device table, the collection table or a device's ITT.
+pub fn strikes_tables(s: &[u8], a: Area) -> bool
+    requires { ⌜ Begun (now s) ⌝ }
+    ensures { λ r. ⌜ r ≡ strikes (tableAreas (decode (now (s .entry))) (decodeMap (now (s .entry)) .devices)) a ⌝ }
 {
-    let first = areas::with_area(areas::none(), table_area(g.tables.devices));
-    let second = areas::with_area(first, table_area(g.tables.collections));
-    with_itts(second, k)
+    let tables = layout::load_tables(s);
+    if areas::overlaps(a, table_area(tables.devices)) {
+        return true;
+    }
+    if areas::overlaps(a, table_area(tables.collections)) {
+        return true;
+    }
+    strikes_itts(s, a)
 }

@@ -5,14 +5,21 @@ use native.Mathlib.Omega.{arith}
 use mathlib.Core.Path.{_≡_, refl, sym, ap, _∙_, subst}
 use mathlib.Core.Logic.{⊎-elim}
 use mathlib.Core.List.{List, [], _∷_, _++_}
-use lib.ListN.{length, getD, take, drop}
+use lib.ListN.{length, getD, drop, drop-of-length-le}
 use borrow.Author.Tests.{eq-eqb, ne-eqb, lt-ltb, le-ltb}
 use Rattle.areas.proofs.Tests.{lt-or-ge}
-use Rattle.areas.proofs.Has.{rows-left, rows-end}
 use Rattle.words.specs.Words.{bytesOf, putAt}
 use Rattle.tables.specs.Saved.{nextOf, chainWord, tableOf}
 use Rattle.save.specs.Saving.{blank, rowAfter, Ready, Room}
+use Rattle.save.proofs.Rows.{row-left}
 use Rattle.save.proofs.Tables.{table-more, table-same, table-none}
+
+-- the row after is the following one, and at the last the row itself
+after-more : (j to k : ℕ) → j + 1 < to → k ≡ rowAfter j to → k ≡ j + 1
+after-more j to k h e = e ∙ rw (lt-ltb (j + 1) to h)
+
+after-last : (j to k : ℕ) → to ≤ j + 1 → k ≡ rowAfter j to → k ≡ j
+after-last j to k h e = e ∙ rw (le-ltb (j + 1) to h)
 
 module _ {A : Type 0} (key : A → ℕ) (n : ℕ) where
   pub ready-weaken : (i j : ℕ) (l : List A) → i ≤ j → Ready key n j l → Ready key n i l
@@ -25,39 +32,28 @@ module _ {A : Type 0} (key : A → ℕ) (n : ℕ) where
   ready-drop i (suc k) (x ∷ l) r =
       ready-weaken i (suc (key x)) (drop k l) (omega (arith, r .0)) (ready-drop (suc (key x)) k l (r .2))
 
-  -- the row at j is the first of those that are left
-  module _ (d : A) (to : ℕ) (a : List A) (j i : ℕ) (f : to ≤ length a) (h : j < to) (r : Ready key n i (drop j (take to a))) where
-    row : Ready key n i (getD a j d ∷ drop (j + 1) (take to a))
-    row = subst (Ready key n i) (rows-left d to a j f h) r
+  -- the row x at j, of as many as to, is the first of those that are left
+  module _ (d : A) (to : ℕ) (l : List A) (j i : ℕ) (x : A) (f : to ≡ length l) (h : j < to) (e : x ≡ getD l j d) (r : Ready key n i (drop j l)) where
+    row : Ready key n i (x ∷ drop (j + 1) l)
+    row = subst (Ready key n i) (row-left d l j x (omega arith) e) r
 
-    pub row-low : i ≤ key (getD a j d)
+    pub row-low : i ≤ key x
     row-low = row .0
 
-    pub row-high : key (getD a j d) < n
+    pub row-high : key x < n
     row-high = row .1
 
-    after-rises : key (getD a j d) ≤ key (getD a (rowAfter j to) d)
-    after-rises =
-        ⊎-elim
-        (λ (g : j + 1 < to).
-            let s : Ready key n (suc (key (getD a j d))) (getD a (j + 1) d ∷ drop (j + 1 + 1) (take to a)) =
-            subst (Ready key n (suc (key (getD a j d)))) (rows-left d to a (j + 1) f g) (row .2) in
-            rw (lt-ltb (j + 1) to g) (omega (arith, s .0)))
-        (λ (g : to ≤ j + 1). rw (le-ltb (j + 1) to g) (omega arith))
-        (lt-or-ge (j + 1) to)
-
-    pub row-rises : (k : ℕ) → k ≡ rowAfter j to → key (getD a j d) ≤ key (getD a k d)
-    row-rises k e = rw e after-rises
-
 module _ {A : Type 0} (key : A → ℕ) (word : A → ℕ → ℕ) (cap : ℕ) where
-  -- the distance to the following row, at most the cap
-  next-row : (d : A) (to : ℕ) (a : List A) (j : ℕ) → to ≤ length a → j < to
-      → min (key (getD a (rowAfter j to) d) - key (getD a j d)) cap ≡ nextOf key cap (getD a j d) (drop (j + 1) (take to a))
+  -- the distance to the row after, at most the cap
+  next-row : (d : A) (to : ℕ) (l : List A) (j k : ℕ) (x y : A) → to ≡ length l → j < to → x ≡ getD l j d → k ≡ rowAfter j to → y ≡ getD l k d
+      → min (key y - key x) cap ≡ nextOf key cap x (drop (j + 1) l)
   unfolding nextOf
-  next-row d to a j f h =
+  next-row d to l j k x y f h e g q =
       ⊎-elim
-      (λ (g : j + 1 < to). rw (lt-ltb (j + 1) to g, rows-left d to a (j + 1) f g))
-      (λ (g : to ≤ j + 1). rw (le-ltb (j + 1) to g, rows-end to a (j + 1) f g) (omega arith))
+      (λ (b : j + 1 < to). rw (row-left d l (j + 1) y (omega arith) (q ∙ ap (λ (z : ℕ). getD l z d) (after-more j to k b g))))
+      (λ (b : to ≤ j + 1).
+          let s : y ≡ x = q ∙ ap (λ (z : ℕ). getD l z d) (after-last j to k b g) ∙ sym e in
+          rw (s, drop-of-length-le l {i = j + 1} (omega arith)) (omega arith))
       (lt-or-ge (j + 1) to)
 
   module _ (n : ℕ) where
@@ -127,19 +123,19 @@ module _ {A : Type 0} (key : A → ℕ) (word : A → ℕ → ℕ) (cap : ℕ) w
                   ∙ ap (λ (y : ℕ). putAt s₀ at (tableOf (chainWord key word cap l) y)) b;
             }
 
-        -- the same, of the row at j among the first to of an array, with the row after it
-        pub write-row : (d : A) (to : ℕ) (a : List A) (j k w : ℕ) → to ≤ length a → j < to → Writing (drop j (take to a)) s i → k ≡ rowAfter j to
-            → w ≡ word (getD a j d) (min (key (getD a k d) - key (getD a j d)) cap) → length t ≡ length s
-            → t ≡ putAt s (at + i * 8) (tableOf blank (key (getD a j d) - i) ++ bytesOf 8 w) → Writing (drop (j + 1) (take to a)) t (key (getD a j d) + 1)
-        write-row d to a j k w f h v e g l′ q =
-            write-turn (drop j (take to a)) (getD a j d) (drop (j + 1) (take to a)) w (rows-left d to a j f h) v
-            (g ∙ ap (λ (z : ℕ). word (getD a j d) (min (key (getD a z d) - key (getD a j d)) cap)) e ∙ ap (word (getD a j d)) (next-row d to a j f h)) l′ q
+        -- the same, of the row x at j, with the row y after it and the distance o
+        pub write-row : (d : A) (to : ℕ) (a : List A) (j k o w : ℕ) (x y : A) → to ≡ length a → j < to → Writing (drop j a) s i → x ≡ getD a j d
+            → k ≡ rowAfter j to → y ≡ getD a k d → o ≡ min (key y - key x) cap → w ≡ word x o → length t ≡ length s
+            → t ≡ putAt s (at + i * 8) (tableOf blank (key x - i) ++ bytesOf 8 w) → Writing (drop (j + 1) a) t (key x + 1)
+        write-row d to a j k o w x y f h v e g p u z l′ q =
+            write-turn (drop j a) x (drop (j + 1) a) w (row-left d a j x (omega arith) e) v (z ∙ ap (word x) (u ∙ next-row d to a j k x y f h e g p)) l′ q
 
-        pub write-end : (to : ℕ) (a : List A) (j : ℕ) → to ≤ length a → to ≤ j → Writing (drop j (take to a)) s i → t ≡ putAt s (at + i * 8) (tableOf blank (n - i))
+        pub write-end : (to : ℕ) (a : List A) (j : ℕ) → to ≡ length a → to ≤ j → Writing (drop j a) s i → t ≡ putAt s (at + i * 8) (tableOf blank (n - i))
             → t ≡ putAt s₀ at (tableOf (chainWord key word cap l) n)
         write-end to a j f g v q =
             let h = v .inside in
             let b : i + (n - i) ≡ n = omega arith in
+            let e : drop j a ≡ [] = drop-of-length-le a {i = j} (omega arith) in
             table-more (chainWord key word cap l) blank i (n - i) s₀ s t at (omega arith)
-            (λ y _. v .words (i + y) (omega arith) ∙ ap (λ (z : List A). chainWord key word cap z (i + y)) (rows-end to a j f g) ∙ chain-end (i + y)) (v .done) q
+            (λ y _. v .words (i + y) (omega arith) ∙ ap (λ (z : List A). chainWord key word cap z (i + y)) e ∙ chain-end (i + y)) (v .done) q
             ∙ ap (λ (y : ℕ). putAt s₀ at (tableOf (chainWord key word cap l) y)) b

@@ -1,10 +1,9 @@
 -- The collection table, written row by row. Assumes nothing.
 use Prim.Native.Nat.{ℕ, _+_, _-_, _*_, _≤_, _<_}
 use native.Mathlib.Omega.{arith}
-use mathlib.Core.Path.{_≡_, refl, ap, _∙_}
+use mathlib.Core.Path.{_≡_, refl, sym, ap, _∙_}
 use mathlib.Core.List.{List}
-use lib.ListN.{length, getD, take}
-use lib.Seq.{getD-take, length-take-le}
+use lib.ListN.{length, getD}
 use borrow.Author.Tests.{lt-ltb, le-ltb}
 use Rattle.words.specs.Words.{bytesOf, putAt}
 use Rattle.mapping.specs.declared.Collection.{Collection}
@@ -13,44 +12,54 @@ use Rattle.tables.specs.Saved.{savedCollection, tableOf}
 use Rattle.save.specs.Saving.{blank, collectionEntry, Room}
 use Rattle.save.proofs.Tables.{table-more, entry-more, table-none}
 
-module _ (to : ℕ) (a : List Collection) (f : to ≤ length a) where
+module _ (cs : List Collection) where
   -- an entry is that of the row at its index, and those after the last row are blank
-  saved-row : (j : ℕ) → j < to → savedCollection (take to a) j ≡ collectionEntry (getD a j noCollection)
+  saved-row : (j : ℕ) → j < length cs → savedCollection cs j ≡ collectionEntry (getD cs j noCollection)
   unfolding savedCollection
-  saved-row j h = rw (length-take-le to a f, lt-ltb j to h, getD-take to a j noCollection h)
+  saved-row j h = rw (lt-ltb j (length cs) h)
 
-  saved-past : (j : ℕ) → to ≤ j → savedCollection (take to a) j ≡ 0
+  saved-past : (j : ℕ) → length cs ≤ j → savedCollection cs j ≡ 0
   unfolding savedCollection
-  saved-past j h = rw (length-take-le to a f, le-ltb j to h)
+  saved-past j h = rw (le-ltb j (length cs) h)
 
--- a loop that writes the first to rows of a: those below j are written
-pub record Listing (to : ℕ) (a : List Collection) (s₀ : List ℕ) (at : ℕ) (s : List ℕ) (j : ℕ) : Type 0 where
-  pub rows : to ≤ length a
-  pub upto : j ≤ to
+-- a loop that writes the rows cs: all but the last left are written
+pub record Listing (count : ℕ) (cs : List Collection) (s₀ : List ℕ) (at : ℕ) (s : List ℕ) (left : ℕ) : Type 0 where
+  pub rows : count ≡ length cs
+  pub upto : left ≤ count
   pub same : length s ≡ length s₀
-  pub done : s ≡ putAt s₀ at (tableOf (savedCollection (take to a)) j)
+  pub done : s ≡ putAt s₀ at (tableOf (savedCollection cs) (count - left))
 
-module _ (to : ℕ) (a : List Collection) (s₀ : List ℕ) (at : ℕ) where
-  pub list-start : to ≤ length a → Listing to a s₀ at s₀ 0
-  list-start f = record { rows = f; upto = omega arith; same = refl; done = table-none (savedCollection (take to a)) s₀ at }
+module _ (count : ℕ) (cs : List Collection) (s₀ : List ℕ) (at : ℕ) where
+  pub list-start : count ≡ length cs → Listing count cs s₀ at s₀ count
+  list-start e = record {
+    rows = e;
+    upto = omega arith;
+    same = refl;
+    done = let z : count - count ≡ 0 = omega arith in rw z (table-none (savedCollection cs) s₀ at);
+  }
 
-  module _ (n : ℕ) (room : Room (length s₀) at n) (few : to ≤ n) (s t : List ℕ) where
-    pub list-turn : (j w : ℕ) → j < to → Listing to a s₀ at s j → w ≡ collectionEntry (getD a j noCollection) → length t ≡ length s
-        → t ≡ putAt s (at + j * 8) (bytesOf 8 w) → Listing to a s₀ at t (j + 1)
-    list-turn j w h v e l q = record {
-      rows = v .rows;
-      upto = omega arith;
-      same = l ∙ v .same;
-      done =
-          entry-more (savedCollection (take to a)) (collectionEntry (getD a j noCollection)) j s₀ s t at (omega arith) (saved-row to a (v .rows) j h)
-          (v .done) (rw e at q);
-    }
+  module _ (n : ℕ) (room : Room (length s₀) at n) (few : length cs ≤ n) (s t : List ℕ) where
+    pub list-turn : (left w : ℕ) (c : Collection) → 0 < left → Listing count cs s₀ at s left → c ≡ getD cs (count - left) noCollection
+        → w ≡ collectionEntry c → length t ≡ length s → t ≡ putAt s (at + (count - left) * 8) (bytesOf 8 w) → Listing count cs s₀ at t (left - 1)
+    list-turn left w c h v e f l q =
+        let rows = v .rows in
+        let upto = v .upto in
+        let j = count - left in
+        let b : count - (left - 1) ≡ j + 1 = omega arith in
+        record {
+          rows = rows;
+          upto = omega arith;
+          same = l ∙ v .same;
+          done =
+              rw b (entry-more (savedCollection cs) (collectionEntry c) j s₀ s t at (omega arith)
+              (saved-row cs j (omega arith) ∙ ap collectionEntry (sym e)) (v .done) (rw f at q));
+        }
 
-    pub list-end : (j : ℕ) → to ≤ j → Listing to a s₀ at s j → t ≡ putAt s (at + to * 8) (tableOf blank (n - to))
-        → t ≡ putAt s₀ at (tableOf (savedCollection (take to a)) n)
-    list-end j h v q =
-        let u = v .upto in
-        let e : j ≡ to = omega arith in
-        let b : to + (n - to) ≡ n = omega arith in
-        table-more (savedCollection (take to a)) blank to (n - to) s₀ s t at (omega arith) (λ x _. saved-past to a (v .rows) (to + x) (omega arith)) (rw e at (v .done)) q
-        ∙ ap (λ (x : ℕ). putAt s₀ at (tableOf (savedCollection (take to a)) x)) b
+    pub list-end : (left : ℕ) → left ≤ 0 → Listing count cs s₀ at s left → t ≡ putAt s (at + count * 8) (tableOf blank (n - count))
+        → t ≡ putAt s₀ at (tableOf (savedCollection cs) n)
+    list-end left h v q =
+        let rows = v .rows in
+        let e : count - left ≡ count = omega arith in
+        let b : count + (n - count) ≡ n = omega arith in
+        table-more (savedCollection cs) blank count (n - count) s₀ s t at (omega arith) (λ x _. saved-past cs (count + x) (omega arith)) (rw e at (v .done)) q
+        ∙ ap (λ (x : ℕ). putAt s₀ at (tableOf (savedCollection cs) x)) b

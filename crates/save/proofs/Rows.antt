@@ -1,23 +1,34 @@
--- Facts of the rows of an array: of each of them, and of those that a search passes. Assumes nothing.
-use Prim.Native.Nat.{ℕ, zero, suc, _≤_, _<_}
+-- Facts of rows: of each of them, of what is left of them, and of those that a search passes. Assumes nothing.
+use Prim.Native.Nat.{ℕ, zero, suc, _+_, _≤_, _<_}
 use native.Mathlib.Nat.{not-suc-le-zero, le-of-suc-le-suc}
+use native.Mathlib.Numerals.{add-one}
 use native.Mathlib.Omega.{arith}
-use mathlib.Core.Path.{_≡_, refl}
+use mathlib.Core.Path.{_≡_, refl, sym, ap, _∙_, subst}
 use mathlib.Core.Bool.{Bool, true, false}
 use mathlib.Core.List.{List, [], _∷_}
-use lib.ListN.{length, getD, take}
-use lib.Seq.{getD-take, length-take-le}
+use lib.ListN.{length, getD, take, drop}
+use lib.Seq.{getD-take, length-take-le, take-all, take-length, drop-cons}
 use Rattle.lists.specs.Rows.{choose, findIx}
 use Rattle.lists.proofs.All.{All, none, more, all-at}
 use Rattle.lists.proofs.Find.{row-le}
-use Rattle.mapping.proofs.Table.{Seeking}
+use Rattle.mapping.proofs.Table.{Seeking, seek-turn, seek-here, seek-end}
+
+-- what is left of the rows from the one at j on, where x was read there
+pub row-left : {A : Type 0} (d : A) (l : List A) (j : ℕ) (x : A) → j < length l → x ≡ getD l j d → drop j l ≡ x ∷ drop (j + 1) l
+row-left d l j x h e = rw (add-one, e) (drop-cons l j d h)
+
+-- the first to of the rows
+module _ {A : Type 0} (to : ℕ) (l : List A) where
+  pub run-count : to ≤ length l → to ≡ length (take to l)
+  run-count f = sym (length-take-le to l f)
+
+  pub run-row : (d : A) (j : ℕ) (x : A) → j < to → x ≡ getD l j d → x ≡ getD (take to l) j d
+  run-row d j x h e = e ∙ sym (getD-take to l j d h)
 
 module _ {A : Type 0} {P : A → Type 0} where
-  -- a fact of every row, of the row at j
-  pub row-good : (d : A) (to : ℕ) (a : List A) (j : ℕ) → to ≤ length a → j < to → All P (take to a) → P (getD a j d)
-  row-good d to a j f h r =
-      let e : length (take to a) ≡ to = length-take-le to a f in
-      rw (← getD-take to a j d h) (all-at (take to a) j d r (omega arith))
+  -- a fact of every row, of the row x that was read at j
+  pub row-good : (d : A) (l : List A) (j : ℕ) (x : A) → j < length l → x ≡ getD l j d → All P l → P x
+  row-good d l j x h e r = rw e (all-at l j d r h)
 
   pub all-weaker : {Q : A → Type 0} → ((x : A) → P x → Q x) → (l : List A) → All P l → All Q l
   all-weaker f [] none = none
@@ -39,12 +50,25 @@ module _ {A : Type 0} (p : A → Bool) (d : A) where
       by false e f zero g = e
       by false e f (suc i) g = f i (le-of-suc-le-suc g)
 
-  -- a search may start at any index up to the one that it finds
-  pub seek-from : (n : ℕ) (a : List A) (from : ℕ) → n ≤ length a → from ≤ findIx p (take n a) → Seeking p d n a from
-  seek-from n a from f h =
-      let u = row-le p d n a in
-      record {
-        room = f;
-        end = omega arith;
-        none = λ j g. let b : j < n = omega arith in rw (← getD-take n a j d b) (find-before (take n a) j (omega arith));
-      }
+  pub find-most : (l : List A) → findIx p l ≤ length l
+  find-most l = subst (λ (z : List A). findIx p z ≤ length l) (take-length l) (row-le p d (length l) l)
+
+  module _ (n : ℕ) (l : List A) (count : n ≡ length l) where
+    same-find : findIx p (take n l) ≡ findIx p l
+    same-find = ap (findIx p) (take-all n l (omega arith))
+
+    -- a search of all n rows may start at any index up to the one that it finds
+    pub seek-from : (from : ℕ) → from ≤ findIx p l → Seeking p d n l from
+    seek-from from h =
+        let u = find-most l in
+        record { room = omega arith; end = omega arith; none = λ j g. find-before l j (omega arith) }
+
+    -- x is the row at i
+    pub seek-past : (i : ℕ) (x : A) → Seeking p d n l i → i < n → x ≡ getD l i d → p x ≡ false → Seeking p d n l (i + 1)
+    seek-past i x v h e t = seek-turn p d n l i v h (rw e at t)
+
+    pub found-here : (i : ℕ) (x : A) → Seeking p d n l i → i < n → x ≡ getD l i d → p x ≡ true → i ≡ findIx p l
+    found-here i x v h e t = seek-here p d n l i v h (rw e at t) ∙ same-find
+
+    pub found-none : (i : ℕ) → Seeking p d n l i → n ≤ i → n ≡ findIx p l
+    found-none i v h = seek-end p d n l i v h ∙ same-find

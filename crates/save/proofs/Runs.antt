@@ -1,16 +1,15 @@
 -- The events of a device are a run of the rows, and the runs follow each other as the devices do. Assumes nothing.
-use Prim.Native.Nat.{ℕ, suc, _+_, _-_, _≤_, _<_, suc-le-suc}
+use Prim.Native.Nat.{ℕ, _+_, _≤_, _<_, suc-le-suc}
 use native.Mathlib.Omega.{arith}
 use mathlib.Core.Path.{_≡_, refl, ap, _∙_}
 use mathlib.Core.Logic.{⊎-elim}
 use mathlib.Core.List.{List, [], _∷_}
 use lib.ListN.{take, drop}
-use lib.Seq.{drop-nil, take-take}
-use lib.Dec.{leb, eqb}
+use lib.Seq.{drop-nil}
+use lib.Dec.{eqb}
 use borrow.Author.Tests.{le-leb, lt-leb, eq-eqb, ne-eqb}
 use Rattle.lists.specs.Rows.{findIx}
 use Rattle.lists.proofs.All.{All, none, more}
-use Rattle.lists.proofs.Find.{row-le}
 use Rattle.areas.proofs.Tests.{lt-or-ge}
 use Rattle.mapping.specs.Mapped.{placeOf, kept}
 use Rattle.save.specs.Saving.{Sorted}
@@ -22,10 +21,6 @@ module _ {A : Type 0} (key : A → ℕ) where
   unfolding findIx
   place-first k [] none = refl
   place-first k (x ∷ l) (more h r) = rw (le-leb k (key x) h)
-
-  place-past : (k : ℕ) (x : A) (l : List A) → key x < k → placeOf key k (x ∷ l) ≡ suc (placeOf key k l)
-  unfolding findIx
-  place-past k x l h = rw (lt-leb k (key x) h)
 
   -- a larger bound is not met earlier
   pub place-mono : (j k : ℕ) (l : List A) → j ≤ k → placeOf key j l ≤ placeOf key k l
@@ -60,10 +55,3 @@ module _ {A : Type 0} (key : A → ℕ) where
               (i ∙ ap (λ (n : ℕ). drop (placeOf key id l) (take n l)) z ∙ drop-nil (placeOf key id l)))
           (lt-or-ge (key x) (id + 1)))
       (lt-or-ge (key x) id)
-
-  -- the same of the first n rows of an array
-  pub run-rows : (d : A) (id n : ℕ) (a : List A) (from to : ℕ) → Sorted key (take n a) → from ≡ placeOf key id (take n a) → to ≡ placeOf key (id + 1) (take n a)
-      → kept (λ x. eqb (key x) id) (take n a) ≡ drop from (take to a)
-  run-rows d id n a from to s e g =
-      run id (take n a) s
-      ∙ rw (e, g) (ap (drop (placeOf key id (take n a))) (take-take (placeOf key (id + 1) (take n a)) n a (row-le (λ x. leb (id + 1) (key x)) d n a)))

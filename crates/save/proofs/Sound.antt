@@ -13,29 +13,30 @@ use Rattle.lists.proofs.All.{All, from-all, all-at}
 use Rattle.areas.specs.declared.Area.{Area}
 use Rattle.areas.specs.Area.{inside, apart, endOf}
 use Rattle.areas.proofs.Tests.{split}
-use Rattle.guest.specs.declared.Guest.{Guest}
 use Rattle.guest.specs.declared.Memory.{Memory}
 use Rattle.guest.specs.declared.Table.{Table}
-use Rattle.guest.specs.Machine.{Machine, view}
+use Rattle.guest.specs.declared.Tables.{Tables}
+use Rattle.guest.specs.Machine.{Machine}
+use Rattle.layout.specs.Layout.{memoryOf, tablesOf, decode}
 use Rattle.rules.specs.Rules.{memoryArea, tableArea, rules}
 use Rattle.rules.proofs.Parts.{TableParts}
 use Rattle.rules.proofs.Facts.{sound-memory, sound-limit, sound-vcpus, sound-tables, sound-devices, sound-collections}
 use Rattle.mapping.specs.declared.Device.{Device}
 use Rattle.mapping.specs.declared.Collection.{Collection}
 use Rattle.mapping.specs.declared.Event.{Event}
-use Rattle.mapping.specs.declared.Mapping.{Mapping}
-use Rattle.mapping.specs.Mapped.{Mapped, rows, rising, deviceKey, collectionKey, eventKey, ittArea, noDevice}
+use Rattle.mapping.specs.Mapped.{Mapped, rising, deviceKey, collectionKey, eventKey, ittArea, noDevice}
 use Rattle.mapping.specs.Commands.{deviceEntries, tableAreas, indexOfDevice, hasDevice, deviceOf, hasCollection}
-use Rattle.mapping.specs.MapRules.{MapKept, isPlaced, deviceOk, collectionOk, eventOk, mappingOk, mapRules}
+use Rattle.mapping.specs.MapRules.{isPlaced, deviceOk, collectionOk, eventOk, mappingOk, mapRules}
 use Rattle.mapping.proofs.Sized.{rules-rows}
-use Rattle.save.specs.Saving.{DeviceGood, CollectionGood, DevicesReady, CollectionsReady, IttReady, IttsReady}
+use Rattle.maplayout.specs.MapLayout.{decodeMap}
+use Rattle.save.specs.Saving.{DeviceGood, CollectionGood, DevicesReady, CollectionsReady, IttReady, IttsReady, Saveable}
 use Rattle.save.proofs.Rows.{all-weaker, all-both}
 use Rattle.save.proofs.Rising.{Rises, rises, rises-ready, rises-found, rises-sorted, rises-events}
 
 -- an area inside memory: its offset, and that it ends by the memory's length
-pub record Placed (r : Memory) (a : Area) : Type 0 where
-  pub low : r .start ≤ a .start
-  pub high : a .start + a .size ≤ r .start + r .length
+record Placed (r : Memory) (a : Area) : Type 0 where
+  low : r .start ≤ a .start
+  high : a .start + a .size ≤ r .start + r .length
 
 placed : (r : Memory) (a : Area) → inside (memoryArea r) a ≡ true → Placed r a
 unfolding inside
@@ -70,6 +71,7 @@ module _ {A : Type 0} {P : A → Type 0} where
 
 module _ (m : Machine) (k : Mapped) where
   record Orders : Type 0 where
+    few : length (k .collections) ≤ 16
     devices : Rises deviceKey (k .devices)
     events : Rises eventKey (k .events)
 
@@ -81,6 +83,7 @@ module _ (m : Machine) (k : Mapped) where
       ∷ rising deviceKey (k .devices) ∷ rising eventKey (k .events) ∷ all (collectionOk m) (k .collections)
       ∷ all (deviceOk m) (k .devices) ∷ apart (tableAreas m (k .devices)) ∷ all (eventOk k) (k .events) ∷ []) e in
       record {
+        few = leb-true (length (k .collections)) 16 (p .0);
         devices = rises deviceKey (k .devices) (p .1 .1 .1 .1 .0);
         events = rises eventKey (k .events) (p .1 .1 .1 .1 .1 .0);
       }
@@ -113,78 +116,104 @@ module _ (m : Machine) (sound : rules m ≡ true) where
       let q = ltb-true (c .pe) (length (m .vcpus)) (p .1) in
       record { icid = ltb-true (c .icid) 65536 (p .0); pe = omega (arith, sound-vcpus m sound .few) }
 
-module _ (g : Guest) (k : Mapping) (kept : MapKept g k) (both : isPlaced (view g) ≡ true) where
-  set-devices : g .tables .devices .set ≡ 1
-  set-devices = eqb-true (g .tables .devices .set) 1 both
+module _ (m : Machine) (k : Mapped) (sound : rules m ≡ true) (kept : mapRules m k ≡ true) (both : isPlaced m ≡ true) where
+  set-devices : m .tables .devices .set ≡ 1
+  set-devices = eqb-true (m .tables .devices .set) 1 both
 
-  set-collections : g .tables .collections .set ≡ 1
-  set-collections = sym (sound-tables (view g) (kept .guest .rules) .together) ∙ set-devices
+  set-collections : m .tables .collections .set ≡ 1
+  set-collections = sym (sound-tables m sound .together) ∙ set-devices
 
-  pub devices-placed : Placed (g .memory) (tableArea (g .tables .devices))
-  devices-placed = table-placed (view g) (kept .guest .rules) (g .tables .devices) (sound-devices (view g) (kept .guest .rules)) set-devices
+  devices-placed : Placed (m .memory) (tableArea (m .tables .devices))
+  devices-placed = table-placed m sound (m .tables .devices) (sound-devices m sound) set-devices
 
-  pub collections-placed : Placed (g .memory) (tableArea (g .tables .collections))
-  collections-placed =
-      table-placed (view g) (kept .guest .rules) (g .tables .collections) (sound-collections (view g) (kept .guest .rules)) set-collections
+  collections-placed : Placed (m .memory) (tableArea (m .tables .collections))
+  collections-placed = table-placed m sound (m .tables .collections) (sound-collections m sound) set-collections
 
-  in-order : Orders (view g) (rows k)
+  in-order : Orders m k
   unfolding mapRules
-  in-order = orders (view g) (rows k) (rw both at (kept .rules))
+  in-order = orders m k (rw both at kept)
 
-  device-rows : All (DeviceParts (view g)) (rows k .devices)
-  device-rows = each (deviceOk (view g)) (device-parts (view g)) (rows k .devices) (rules-rows (view g) (rows k) (kept .rules) .devices)
+  device-rows : All (DeviceParts m) (k .devices)
+  device-rows = each (deviceOk m) (device-parts m) (k .devices) (rules-rows m k kept .devices)
 
-  event-rows : All (λ e. (hasDevice (e .device) (rows k) ≡ true) × (e .event < 2 ^ deviceOf (e .device) (rows k) .bits)) (rows k .events)
-  event-rows = each (eventOk (rows k)) (event-parts (view g) (rows k)) (rows k .events) (rules-rows (view g) (rows k) (kept .rules) .events)
+  event-rows : All (λ e. (hasDevice (e .device) k ≡ true) × (e .event < 2 ^ deviceOf (e .device) k .bits)) (k .events)
+  event-rows = each (eventOk k) (event-parts m k) (k .events) (rules-rows m k kept .events)
 
-  event-small : (e : Event) → (hasDevice (e .device) (rows k) ≡ true) × (e .event < 2 ^ deviceOf (e .device) (rows k) .bits) → e .event < 65536
+  event-small : (e : Event) → (hasDevice (e .device) k ≡ true) × (e .event < 2 ^ deviceOf (e .device) k .bits) → e .event < 65536
   event-small e p =
-      let i = indexOfDevice (e .device) (rows k) in
-      let d = all-at (rows k .devices) i noDevice device-rows (ltb-true i (length (rows k .devices)) (p .0)) in
+      let i = indexOfDevice (e .device) k in
+      let d = all-at (k .devices) i noDevice device-rows (ltb-true i (length (k .devices)) (p .0)) in
       omega (arith, p .1, pow-mono (d .high))
 
-  module _ (len : ℕ) (long : len ≡ g .memory .length) where
-    pub devices-ready : DevicesReady len (g .tables .devices .start - g .memory .start) (512 * g .tables .devices .pages) k
+  module _ (len : ℕ) (long : len ≡ m .memory .length) where
+    devices-ready : DevicesReady len (m .tables .devices .start - m .memory .start) (512 * m .tables .devices .pages) (k .devices)
     devices-ready = record {
-      within = kept .within;
       room = omega (arith, devices-placed .low, devices-placed .high);
       ready =
-          rises-ready deviceKey (512 * g .tables .devices .pages) 0 (rows k .devices) (in-order .devices)
-          (all-weaker (λ d p. (omega arith, p .id)) (rows k .devices) device-rows);
-      good = all-weaker (device-good (view g) (kept .guest .rules)) (rows k .devices) device-rows;
+          rises-ready deviceKey (512 * m .tables .devices .pages) 0 (k .devices) (in-order .devices)
+          (all-weaker (λ d p. (omega arith, p .id)) (k .devices) device-rows);
+      good = all-weaker (device-good m sound) (k .devices) device-rows;
     }
 
-    pub collections-ready : CollectionsReady len (g .tables .collections .start - g .memory .start) (512 * g .tables .collections .pages) k
+    collections-ready : CollectionsReady len (m .tables .collections .start - m .memory .start) (512 * m .tables .collections .pages) (k .collections)
     collections-ready = record {
-      within = kept .within;
       room = omega (arith, collections-placed .low, collections-placed .high);
-      few = omega (arith, kept .within .collections, sound-collections (view g) (kept .guest .rules) .some set-collections);
-      good =
-          each (collectionOk (view g)) (collection-good (view g) (kept .guest .rules)) (rows k .collections)
-          (rules-rows (view g) (rows k) (kept .rules) .collections);
+      few = omega (arith, in-order .few, sound-collections m sound .some set-collections);
+      good = each (collectionOk m) (collection-good m sound) (k .collections) (rules-rows m k kept .collections);
     }
 
-    itt-ready : (d : Device) → DeviceParts (view g) d → deviceOf (d .id) (rows k) ≡ d → IttReady (g .memory .start) len (rows k .events) d
+    itt-ready : (d : Device) → DeviceParts m d → deviceOf (d .id) k ≡ d → IttReady (m .memory .start) len (k .events) d
     itt-ready d p q = record {
-      id = omega (arith, p .id, sound-devices (view g) (kept .guest .rules) .most);
+      id = omega (arith, p .id, sound-devices m sound .most);
       bits = p .high;
       place = p .itt .low;
       room = omega (arith, p .itt .low, p .itt .high);
-      ready =
-          rises-events (d .id) (2 ^ d .bits) 0 (rows k .events) (in-order .events) (all-weaker below (rows k .events) event-rows);
+      ready = rises-events (d .id) (2 ^ d .bits) 0 (k .events) (in-order .events) (all-weaker below (k .events) event-rows);
     }
 
       where
-        below : (e : Event) → (hasDevice (e .device) (rows k) ≡ true) × (e .event < 2 ^ deviceOf (e .device) (rows k) .bits)
+        below : (e : Event) → (hasDevice (e .device) k ≡ true) × (e .event < 2 ^ deviceOf (e .device) k .bits)
             → e .device ≡ d .id → (0 ≤ e .event) × (e .event < 2 ^ d .bits)
-        below e r f = (omega arith, subst (λ (x : Device). e .event < 2 ^ x .bits) (ap (λ (i : ℕ). deviceOf i (rows k)) f ∙ q) (r .1))
+        below e r f = (omega arith, subst (λ (x : Device). e .event < 2 ^ x .bits) (ap (λ (i : ℕ). deviceOf i k) f ∙ q) (r .1))
 
-    pub itts-ready : IttsReady (g .memory .start) len k
+    itts-ready : IttsReady (m .memory .start) len k
     itts-ready = record {
-      within = kept .within;
       devices =
-          rises-ready deviceKey 65536 0 (rows k .devices) (in-order .devices)
-          (all-weaker (λ d p. (omega arith, omega (arith, p .id, sound-devices (view g) (kept .guest .rules) .most))) (rows k .devices) device-rows);
-      events = rises-sorted (rows k .events) (in-order .events) (all-weaker event-small (rows k .events) event-rows);
-      each = all-both itt-ready (rows k .devices) device-rows (rises-found deviceKey noDevice (rows k .devices) (in-order .devices));
+          rises-ready deviceKey 65536 0 (k .devices) (in-order .devices)
+          (all-weaker (λ d p. (omega arith, omega (arith, p .id, sound-devices m sound .most))) (k .devices) device-rows);
+      events = rises-sorted (k .events) (in-order .events) (all-weaker event-small (k .events) event-rows);
+      each = all-both itt-ready (k .devices) device-rows (rises-found deviceKey noDevice (k .devices) (in-order .devices));
     }
+
+-- the same of bytes, with the memory and the tables as they are read from them
+module _ (s : List ℕ) (len : ℕ) (v : Saveable s len) (memory : Memory) (tables : Tables) (e : memory ≡ memoryOf s) (f : tables ≡ tablesOf s) where
+  pub start-read : memory .start ≡ decode s .memory .start
+  unfolding decode
+  start-read = ap (λ (r : Memory). r .start) e
+
+  pub tables-read : tables ≡ decode s .tables
+  unfolding decode
+  tables-read = f
+
+  pub devices-low : memory .start ≤ tables .devices .start
+  devices-low = rw (start-read, tables-read) (devices-placed (decode s) (decodeMap s) (v .guest) (v .mapping) (v .placed) .low)
+
+  pub devices-few : tables .devices .pages ≤ 128
+  devices-few = rw tables-read (sound-devices (decode s) (v .guest) .most)
+
+  pub collections-low : memory .start ≤ tables .collections .start
+  collections-low = rw (start-read, tables-read) (collections-placed (decode s) (decodeMap s) (v .guest) (v .mapping) (v .placed) .low)
+
+  pub collections-few : tables .collections .pages ≤ 128
+  collections-few = rw tables-read (sound-collections (decode s) (v .guest) .most)
+
+  -- memory keeps its length while it is written
+  module _ (now : ℕ) (l : now ≡ len) where
+    pub devices-given : DevicesReady now (tables .devices .start - memory .start) (512 * tables .devices .pages) (decodeMap s .devices)
+    devices-given = rw (start-read, tables-read) (devices-ready (decode s) (decodeMap s) (v .guest) (v .mapping) (v .placed) now (l ∙ v .long))
+
+    pub collections-given : CollectionsReady now (tables .collections .start - memory .start) (512 * tables .collections .pages) (decodeMap s .collections)
+    collections-given = rw (start-read, tables-read) (collections-ready (decode s) (decodeMap s) (v .guest) (v .mapping) (v .placed) now (l ∙ v .long))
+
+    pub itts-given : IttsReady (memory .start) now (decodeMap s)
+    itts-given = rw start-read (itts-ready (decode s) (decodeMap s) (v .guest) (v .mapping) (v .placed) now (l ∙ v .long))

@@ -1,12 +1,12 @@
 -- A table's bytes, run by run: what is written after written entries. Assumes nothing.
-use Prim.Native.Nat.{ℕ, zero, suc, _+_, _-_, _*_, _≤_, _<_}
-use native.Mathlib.Nat.{add-zero, add-suc}
+use Prim.Native.Nat.{ℕ, zero, suc, _+_, _-_, _*_, _/_, _^_, _≤_, _<_}
+use native.Mathlib.Nat.{add-zero, add-suc, zero-div}
 use native.Mathlib.Omega.{arith}
 use mathlib.Core.Path.{_≡_, refl, sym, ap, _∙_}
 use mathlib.Core.List.{List, _++_, append-nil, append-assoc}
-use lib.ListN.{length, length-append}
+use lib.ListN.{length, set, length-append, length-set}
 use Rattle.words.specs.Words.{bytesOf, putAt}
-use Rattle.words.proofs.Laws.{length-bytesOf, putAt-none, put-next}
+use Rattle.words.proofs.Laws.{length-bytesOf, bytesOf-add, putAt-none, put-one, put-two, put-next}
 use Rattle.tables.specs.Saved.{tableOf}
 use Rattle.save.specs.Saving.{blank}
 
@@ -47,36 +47,56 @@ pub table-none : (w : ℕ → ℕ) (s : List ℕ) (at : ℕ) → s ≡ putAt s a
 unfolding tableOf
 table-none w s at = sym (putAt-none s at)
 
--- a loop that blanks the entries from index from up to index to: those below i are blank
-pub record Blanking (s₀ : List ℕ) (at from to : ℕ) (s : List ℕ) (i : ℕ) : Type 0 where
-  pub low : from ≤ i
-  pub upto : i ≤ to
-  pub same : length s ≡ length s₀
-  pub done : s ≡ putAt s₀ (at + from * 8) (tableOf blank (i - from))
+-- blank entries are zeros, of which a number 0 has as many as are asked for
+zero-rest : (n : ℕ) → 0 / 256 ^ n ≡ 0
+zero-rest n = zero-div (256 ^ n)
 
-module _ (s₀ : List ℕ) (at from to : ℕ) (fits : at + to * 8 ≤ length s₀) where
-  pub blank-start : from ≤ to → Blanking s₀ at from to s₀ from
-  blank-start h = record {
+blanks-zeros : (n : ℕ) → tableOf blank n ≡ bytesOf (n * 8) 0
+unfolding tableOf bytesOf
+blanks-zeros zero = refl
+blanks-zeros (suc n) =
+    let e : suc n * 8 ≡ n * 8 + 8 = omega arith in
+    rw (e, bytesOf-add (n * 8) 8 0, zero-rest (n * 8), blanks-zeros n)
+
+-- a loop that clears the bytes from index first up to index end: those below i are zeros
+pub record Clearing (s₀ : List ℕ) (first end : ℕ) (s : List ℕ) (i : ℕ) : Type 0 where
+  pub low : first ≤ i
+  pub upto : i ≤ end
+  pub same : length s ≡ length s₀
+  pub done : s ≡ putAt s₀ first (bytesOf (i - first) 0)
+
+module _ (s₀ : List ℕ) (first end : ℕ) where
+  pub clear-start : first ≤ end → Clearing s₀ first end s₀ first
+  unfolding bytesOf
+  clear-start h = record {
     low = omega arith;
     upto = h;
     same = refl;
-    done = let z : from - from ≡ 0 = omega arith in rw z (table-none blank s₀ (at + from * 8));
+    done = let z : first - first ≡ 0 = omega arith in rw z (sym (putAt-none s₀ first));
   }
 
-  pub blank-turn : (s t : List ℕ) (i : ℕ) → Blanking s₀ at from to s i → i < to → length t ≡ length s → t ≡ putAt s (at + i * 8) (bytesOf 8 0) → Blanking s₀ at from to t (i + 1)
-  blank-turn s t i v h l q =
+  pub clear-turn : (s : List ℕ) (i : ℕ) → end ≤ length s₀ → Clearing s₀ first end s i → i < end → Clearing s₀ first end (set s i 0) (i + 1)
+  clear-turn s i fits v h =
       let low = v .low in
-      let a : at + i * 8 ≡ at + from * 8 + (i - from) * 8 = omega arith in
-      let b : i + 1 - from ≡ i - from + 1 = omega arith in
+      let same = v .same in
+      let a : first + (i - first) ≡ i = omega arith in
+      let b : i + 1 - first ≡ i - first + 1 = omega arith in
       record {
         low = omega arith;
         upto = omega arith;
-        same = l ∙ v .same;
-        done = rw b (entry-more blank 0 (i - from) s₀ s t (at + from * 8) (omega arith) refl (v .done) (rw a at q));
+        same = length-set s i 0 ∙ same;
+        done =
+            rw b (put-two s₀ s (set s i 0) first (i - first) 1 0 (omega arith) (v .done) (rw (a, zero-rest (i - first)) (put-one s i 0 (omega arith))));
       }
 
-  pub blank-end : (s : List ℕ) (i : ℕ) → Blanking s₀ at from to s i → to ≤ i → s ≡ putAt s₀ (at + from * 8) (tableOf blank (to - from))
-  blank-end s i v h = let u = v .upto in let e : i ≡ to = omega arith in rw e at (v .done)
+-- from entry from up to entry to
+pub blank-end : (s₀ : List ℕ) (at from to : ℕ) (s : List ℕ) (i : ℕ) → Clearing s₀ (at + from * 8) (at + to * 8) s i → at + to * 8 ≤ i
+    → s ≡ putAt s₀ (at + from * 8) (tableOf blank (to - from))
+blank-end s₀ at from to s i v h =
+    let low = v .low in
+    let upto = v .upto in
+    let e : i - (at + from * 8) ≡ (to - from) * 8 = omega arith in
+    v .done ∙ rw (e, blanks-zeros (to - from))
 
 -- blank entries, and a word after them
 pub blanks-word : (s t u : List ℕ) (at from id word : ℕ) → from ≤ id → at + id * 8 ≤ length s

@@ -1,5 +1,5 @@
 -- What the code of a save asks of the rows and of where they go.
-use Prim.Native.Nat.{ℕ, suc, _+_, _-_, _*_, _%_, _^_, _≤_, _<_, min}
+use Prim.Native.Nat.{ℕ, suc, _+_, _-_, _*_, _%_, _^_, _≤_, _<_}
 use mathlib.Core.Path.{_≡_}
 use mathlib.Core.Bool.{true}
 use mathlib.Core.List.{List, [], _∷_}
@@ -9,16 +9,15 @@ use Rattle.lists.specs.Rows.{choose}
 use Rattle.lists.proofs.All.{All}
 use Rattle.words.specs.Words.{putAt}
 use Rattle.entries.specs.Collection.{collectionWord}
-use Rattle.guest.specs.declared.Guest.{Guest}
-use Rattle.guest.specs.Machine.{view}
+use Rattle.layout.specs.Layout.{decode, Counted}
+use Rattle.rules.specs.Rules.{rules}
 use Rattle.mapping.specs.declared.Device.{Device}
 use Rattle.mapping.specs.declared.Collection.{Collection}
 use Rattle.mapping.specs.declared.Event.{Event}
-use Rattle.mapping.specs.declared.Mapping.{Mapping}
-use Rattle.mapping.specs.Mapped.{Within, rows, placeOf, deviceKey}
-use Rattle.mapping.specs.MapRules.{MapKept, isPlaced}
-use Rattle.tables.specs.Bytes.{deviceCap, eventCap}
-use Rattle.tables.specs.Saved.{deviceEntry, eventEntry, eventId, eventsOf, savedEvent, tableOf}
+use Rattle.mapping.specs.Mapped.{Mapped, placeOf, deviceKey}
+use Rattle.mapping.specs.MapRules.{mapRules, isPlaced}
+use Rattle.maplayout.specs.MapLayout.{decodeMap, Counted as MapCounted}
+use Rattle.tables.specs.Saved.{eventId, eventsOf, savedEvent, tableOf}
 
 -- the word of a blank entry
 abbrev pub blank : ℕ → ℕ
@@ -27,13 +26,6 @@ blank i = 0
 -- the index of the row after j, or j itself at the last row before to
 abbrev pub rowAfter : ℕ → ℕ → ℕ
 rowAfter j to = choose (ltb (j + 1) to) (j + 1) j
-
--- the word of a row whose following row is the second one; at the last row the two are the same, and the distance is 0
-abbrev pub deviceBefore : Device → Device → ℕ
-deviceBefore d e = deviceEntry d (min (e .id - d .id) deviceCap)
-
-abbrev pub eventBefore : Event → Event → ℕ
-eventBefore e f = eventEntry e (min (f .event - e .event) eventCap)
 
 abbrev pub collectionEntry : Collection → ℕ
 collectionEntry c = collectionWord (record { pe = c .pe; icid = c .icid })
@@ -64,26 +56,24 @@ pub record CollectionGood (c : Collection) : Type 0 where
 abbrev pub Room : ℕ → ℕ → ℕ → Type 0
 Room len at n = at + n * 8 ≤ len
 
-pub record DevicesReady (len at n : ℕ) (k : Mapping) : Type 0 where
-  pub within : Within k
+pub record DevicesReady (len at n : ℕ) (ds : List Device) : Type 0 where
   pub room : Room len at n
-  pub ready : Ready deviceKey n 0 (rows k .devices)
-  pub good : All DeviceGood (rows k .devices)
+  pub ready : Ready deviceKey n 0 ds
+  pub good : All DeviceGood ds
 
-pub record CollectionsReady (len at n : ℕ) (k : Mapping) : Type 0 where
-  pub within : Within k
+pub record CollectionsReady (len at n : ℕ) (cs : List Collection) : Type 0 where
   pub room : Room len at n
-  pub few : k .ncollections ≤ n
-  pub good : All CollectionGood (rows k .collections)
+  pub few : length cs ≤ n
+  pub good : All CollectionGood cs
 
 -- the events from index from up to index to
-abbrev pub eventRun : Mapping → ℕ → ℕ → List Event
-eventRun k from to = drop from (take to (k .events))
+abbrev pub eventRun : List Event → ℕ → ℕ → List Event
+eventRun es from to = drop from (take to es)
 
-pub record EventsReady (len at n : ℕ) (k : Mapping) (from to : ℕ) : Type 0 where
+pub record EventsReady (len at n : ℕ) (es : List Event) (from to : ℕ) : Type 0 where
   pub room : Room len at n
-  pub most : to ≤ 1024
-  pub ready : Ready eventId n 0 (eventRun k from to)
+  pub most : to ≤ length es
+  pub ready : Ready eventId n 0 (eventRun es from to)
 
 -- what events are sorted by
 abbrev pub eventDevice : Event → ℕ
@@ -106,20 +96,21 @@ abbrev pub savedItt : ℕ → List Event → Device → List ℕ → List ℕ
 savedItt start es d mem = putAt mem (d .itt - start) (tableOf (savedEvent (eventsOf (d .id) es)) (2 ^ d .bits))
 
 -- the events of the devices before d are passed at index j
-pub record IttCursor (start len : ℕ) (k : Mapping) (d : Device) (j : ℕ) : Type 0 where
-  pub within : Within k
-  pub events : Sorted eventDevice (rows k .events)
-  pub itt : IttReady start len (rows k .events) d
-  pub passed : j ≤ firstEvent (d .id) (rows k .events)
+pub record IttCursor (start len : ℕ) (es : List Event) (d : Device) (j : ℕ) : Type 0 where
+  pub events : Sorted eventDevice es
+  pub itt : IttReady start len es d
+  pub passed : j ≤ firstEvent (d .id) es
 
-pub record IttsReady (start len : ℕ) (k : Mapping) : Type 0 where
-  pub within : Within k
-  pub devices : Ready deviceKey 65536 0 (rows k .devices)
-  pub events : Sorted eventDevice (rows k .events)
-  pub each : All (IttReady start len (rows k .events)) (rows k .devices)
+pub record IttsReady (start len : ℕ) (k : Mapped) : Type 0 where
+  pub devices : Ready deviceKey 65536 0 (k .devices)
+  pub events : Sorted eventDevice (k .events)
+  pub each : All (IttReady start len (k .events)) (k .devices)
 
--- a guest and a mapping that keep the rules, with the tables placed, and lent memory of the right length
-pub record Saveable (g : Guest) (k : Mapping) (len : ℕ) : Type 0 where
-  pub kept : MapKept g k
-  pub placed : isPlaced (view g) ≡ true
-  pub long : len ≡ g .memory .length
+-- the bytes of a guest and a mapping that keep the rules, with the tables placed, and lent memory of the right length
+pub record Saveable (s : List ℕ) (len : ℕ) : Type 0 where
+  pub counted : Counted s
+  pub mapped : MapCounted s
+  pub guest : rules (decode s) ≡ true
+  pub mapping : mapRules (decode s) (decodeMap s) ≡ true
+  pub placed : isPlaced (decode s) ≡ true
+  pub long : len ≡ decode s .memory .length

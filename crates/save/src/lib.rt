@@ -1,13 +1,15 @@
-// Save: the mapping written into lent guest memory as its tables' entries.
+// Save: the mapping written into lent guest memory as its tables' entries. The rows are read where they lie in the state's bytes, one by
+// one, so that no table of them is copied.
 ghost use mathlib.Core.Path.{_≡_};
 ghost use mathlib.Core.List.{_++_};
 ghost use Prim.Native.Nat.{_+_, _-_, _*_, _^_, _≤_, _<_, min};
 ghost use lib.ListN.{length};
 ghost use Rattle.words.specs.Words.{bytesOf, putAt};
-ghost use Rattle.guest.specs.Machine.{view};
-ghost use Rattle.mapping.specs.Mapped.{Within, rows};
-ghost use Rattle.tables.specs.Saved.{tableOf, savedDevice, savedCollection, savedEvent, savedItts, savedMemory};
-ghost use Rattle.save.specs.Saving.{blank, rowAfter, deviceBefore, collectionEntry, eventBefore, eventRun, firstEvent, savedItt};
+ghost use Rattle.layout.specs.Layout.{decode};
+ghost use Rattle.maplayout.specs.MapLayout.{decodeMap, Counted};
+ghost use Rattle.tables.specs.Bytes.{deviceCap, eventCap};
+ghost use Rattle.tables.specs.Saved.{tableOf, deviceEntry, eventEntry, savedDevice, savedCollection, savedEvent, savedItts, savedMemory};
+ghost use Rattle.save.specs.Saving.{blank, rowAfter, collectionEntry, eventRun, firstEvent, savedItt};
 ghost use Rattle.save.specs.Saving.{DeviceGood, CollectionGood, DevicesReady, CollectionsReady, EventsReady};
 ghost use Rattle.save.specs.Saving.{IttCursor, IttsReady, Saveable};
 
@@ -24,14 +26,16 @@ fn put_entry(mem: &mut [u8], at: usize, i: usize, word: u64)
     words::put64(mem, at + i * 8, word);
 }
 
-// Blank entries, from entry `from` up to entry `to`: no old byte stays in them.
+// Blank entries, from entry `from` up to entry `to`: no old byte stays in them. The loop goes byte by byte, since the compiler makes one
+// memset of that, and of a loop of words it does not.
 fn write_blanks(mem: &mut [u8], at: usize, from: usize, to: usize)
     requires { ⌜ (from ≤ to) × (at + to * 8 ≤ length (now mem)) ⌝ }
     ensures { λ _. ⌜ now (mem .exit) ≡ putAt (now (mem .entry)) (at + from * 8) (tableOf blank (to - from)) ⌝ }
 {
-    let mut i = from;
-    while i < to {
-        put_entry(mem, at, i, 0);
+    let end = at + to * 8;
+    let mut i = at + from * 8;
+    while i < end {
+        mem[i] = 0;
         i += 1;
     }
 }
@@ -57,11 +61,13 @@ fn row_after(j: usize, to: usize) -> usize
     j
 }
 
-// The distance between two IDs, as an entry has it: at most the cap.
+// The distance from an ID to the following row's, as an entry has it: at most the cap, and 0 from a last row to itself.
 fn distance(from: u64, to: u64, cap: u64) -> u64
-    requires { ⌜ from ≤ to ⌝ }
     ensures { λ r. ⌜ r ≡ min (to - from) cap ⌝ }
 {
+    if to <= from {
+        return 0;
+    }
     let gap = to - from;
     if gap < cap {
         return gap;
@@ -69,12 +75,10 @@ fn distance(from: u64, to: u64, cap: u64) -> u64
     cap
 }
 
-// The entry of a device and the row after it, or the device itself at the last.
-fn device_word(d: mapping::Device, following: mapping::Device) -> u64
-    requires { ⌜ (DeviceGood d) × (d .id ≤ following .id) ⌝ }
-    ensures { λ r. ⌜ r ≡ deviceBefore d following ⌝ }
+fn device_word(d: mapping::Device, next: u64) -> u64
+    requires { ⌜ (DeviceGood d) × (next ≤ deviceCap) ⌝ }
+    ensures { λ r. ⌜ r ≡ deviceEntry d next ⌝ }
 {
-    let next = distance(d.id, following.id, DEVICE_CAP);
     entries::device_word(entries::DeviceEntry {
         next: next,
         itt: d.itt,
@@ -84,20 +88,21 @@ fn device_word(d: mapping::Device, following: mapping::Device) -> u64
 
 // The device table, `n` entries from index `at`: a word for each device, blanks before, between and after them. Entries below `i`
 // are written, and rows before `j`.
-fn write_devices(mem: &mut [u8], at: usize, n: usize, k: mapping::Mapping)
-    requires { ⌜ DevicesReady (length (now mem)) at n k ⌝ }
-    ensures { λ _. ⌜ now (mem .exit) ≡ putAt (now (mem .entry)) at (tableOf (savedDevice (rows k .devices)) n) ⌝ }
+fn write_devices(s: &[u8], mem: &mut [u8], at: usize, n: usize)
+    requires { ⌜ Counted (now s) × DevicesReady (length (now mem)) at n (decodeMap (now s) .devices) ⌝ }
+    ensures { λ _. ⌜ now (mem .exit) ≡ putAt (now (mem .entry)) at (tableOf (savedDevice (decodeMap (now (s .entry)) .devices)) n) ⌝ }
 {
-    let count = k.ndevices;
+    let count = maplayout::device_count(s);
     let mut i: usize = 0;
     let mut j: usize = 0;
     while j < count {
-        let d = k.devices[j];
-        let following = k.devices[row_after(j, count)];
-        let id = d.id as usize;
-        write_next(mem, at, i, id, device_word(d, following));
-        i = id + 1; // past this device's entry
-        j += 1;
+        let d = maplayout::device_at(s, j);
+        let following = maplayout::device_at(s, row_after(j, count));
+        let past = d.id + 1; // the entry after this device's
+        let next = distance(d.id, following.id, DEVICE_CAP);
+        write_next(mem, at, i, d.id as usize, device_word(d, next));
+        i = past as usize;
+        j += 1; // to the following device
     }
     write_blanks(mem, at, i, n);
 }
@@ -112,27 +117,27 @@ fn collection_word(c: mapping::Collection) -> u64
     })
 }
 
-// The collection table, `n` entries from index `at`: the collections in rising ICID from entry 0, and blanks after them.
-fn write_collections(mem: &mut [u8], at: usize, n: usize, k: mapping::Mapping)
-    requires { ⌜ CollectionsReady (length (now mem)) at n k ⌝ }
-    ensures { λ _. ⌜ now (mem .exit) ≡ putAt (now (mem .entry)) at (tableOf (savedCollection (rows k .collections)) n) ⌝ }
+// The collection table, `n` entries from index `at`: the collections in rising ICID from entry 0, and blanks after them. Row `i` is
+// entry `i`, and `left` rows come after it.
+fn write_collections(s: &[u8], mem: &mut [u8], at: usize, n: usize)
+    requires { ⌜ Counted (now s) × CollectionsReady (length (now mem)) at n (decodeMap (now s) .collections) ⌝ }
+    ensures { λ _. ⌜ now (mem .exit) ≡ putAt (now (mem .entry)) at (tableOf (savedCollection (decodeMap (now (s .entry)) .collections)) n) ⌝ }
 {
-    let count = k.ncollections;
-    let mut i: usize = 0;
-    while i < count {
-        let c = k.collections[i];
+    let count = maplayout::collection_count(s);
+    let mut left = count;
+    while 0 < left {
+        let i = count - left;
+        left -= 1;
+        let c = maplayout::collection_at(s, i);
         put_entry(mem, at, i, collection_word(c));
-        i += 1;
     }
     write_blanks(mem, at, count, n);
 }
 
-// The entry of an event and the row after it, or the event itself at the last.
-fn event_word(e: mapping::Event, following: mapping::Event) -> u64
-    requires { ⌜ e .event ≤ following .event ⌝ }
-    ensures { λ r. ⌜ r ≡ eventBefore e following ⌝ }
+fn event_word(e: mapping::Event, next: u64) -> u64
+    requires { ⌜ next ≤ eventCap ⌝ }
+    ensures { λ r. ⌜ r ≡ eventEntry e next ⌝ }
 {
-    let next = distance(e.event as u64, following.event as u64, EVENT_CAP);
     entries::event_word(entries::EventEntry {
         next: next,
         lpi: e.lpi as u64,
@@ -141,17 +146,18 @@ fn event_word(e: mapping::Event, following: mapping::Event) -> u64
 }
 
 // An ITT, `n` entries from index `at`: a word for each event of the rows from `from` up to `to`, blanks before, between and after them.
-fn write_events(mem: &mut [u8], at: usize, n: usize, k: mapping::Mapping, from: usize, to: usize)
-    requires { ⌜ EventsReady (length (now mem)) at n k from to ⌝ }
-    ensures { λ _. ⌜ now (mem .exit) ≡ putAt (now (mem .entry)) at (tableOf (savedEvent (eventRun k from to)) n) ⌝ }
+fn write_events(s: &[u8], mem: &mut [u8], at: usize, n: usize, from: usize, to: usize)
+    requires { ⌜ Counted (now s) × EventsReady (length (now mem)) at n (decodeMap (now s) .events) from to ⌝ }
+    ensures { λ _. ⌜ now (mem .exit) ≡ putAt (now (mem .entry)) at (tableOf (savedEvent (eventRun (decodeMap (now (s .entry)) .events) from to)) n) ⌝ }
 {
     let mut i: usize = 0;
     let mut j = from;
     while j < to {
-        let e = k.events[j];
-        let following = k.events[row_after(j, to)];
+        let e = maplayout::event_at(s, j);
+        let following = maplayout::event_at(s, row_after(j, to));
         let id = e.event as usize;
-        write_next(mem, at, i, id, event_word(e, following));
+        let next = distance(e.event as u64, following.event as u64, EVENT_CAP);
+        write_next(mem, at, i, id, event_word(e, next));
         i = id + 1;
         j += 1;
     }
@@ -160,14 +166,14 @@ fn write_events(mem: &mut [u8], at: usize, n: usize, k: mapping::Mapping, from: 
 
 // The first row of events whose device is not below `id`, or the number of events. It is not before row `from`, so that a search
 // goes on where an earlier one ended.
-fn first_event(k: mapping::Mapping, from: usize, id: u64) -> usize
-    requires { ⌜ (Within k) × (from ≤ firstEvent id (rows k .events)) ⌝ }
-    ensures { λ r. ⌜ r ≡ firstEvent id (rows k .events) ⌝ }
+fn first_event(s: &[u8], from: usize, id: u64) -> usize
+    requires { ⌜ Counted (now s) × (from ≤ firstEvent id (decodeMap (now s) .events)) ⌝ }
+    ensures { λ r. ⌜ r ≡ firstEvent id (decodeMap (now (s .entry)) .events) ⌝ }
 {
-    let n = k.nevents;
+    let n = maplayout::event_count(s);
     let mut j = from;
     while j < n {
-        let e = k.events[j];
+        let e = maplayout::event_at(s, j);
         if id <= e.device as u64 {
             return j;
         }
@@ -185,41 +191,43 @@ fn itt_entries(bits: u64) -> usize
 }
 
 // The ITT of a device, whose events do not stand before row `j`. Hands back the row past them, where the next device's may stand.
-fn write_itt(mem: &mut [u8], start: u64, k: mapping::Mapping, d: mapping::Device, j: usize) -> usize
-    requires { ⌜ IttCursor start (length (now mem)) k d j ⌝ }
-    ensures { λ r. ⌜ (now (mem .exit) ≡ savedItt start (rows k .events) d (now (mem .entry))) × (r ≡ firstEvent (d .id + 1) (rows k .events)) ⌝ }
+fn write_itt(s: &[u8], mem: &mut [u8], start: u64, d: mapping::Device, j: usize) -> usize
+    requires { ⌜ Counted (now s) × IttCursor start (length (now mem)) (decodeMap (now s) .events) d j ⌝ }
+    ensures { λ r. ⌜ (now (mem .exit) ≡ savedItt start (decodeMap (now (s .entry)) .events) d (now (mem .entry))) × (r ≡ firstEvent (d .id + 1) (decodeMap (now (s .entry)) .events)) ⌝ }
 {
-    let from = first_event(k, j, d.id);
-    let to = first_event(k, from, d.id + 1);
+    let from = first_event(s, j, d.id);
+    let to = first_event(s, from, d.id + 1);
     let at = (d.itt - start) as usize;
-    write_events(mem, at, itt_entries(d.bits), k, from, to);
+    write_events(s, mem, at, itt_entries(d.bits), from, to);
     to
 }
 
 // The ITT of each device, in memory that starts at `start`. Events rise with their device, so each is passed once.
-fn write_itts(mem: &mut [u8], start: u64, k: mapping::Mapping)
-    requires { ⌜ IttsReady start (length (now mem)) k ⌝ }
-    ensures { λ _. ⌜ now (mem .exit) ≡ savedItts start (rows k .devices) (rows k .events) (now (mem .entry)) ⌝ }
+fn write_itts(s: &[u8], mem: &mut [u8], start: u64)
+    requires { ⌜ Counted (now s) × IttsReady start (length (now mem)) (decodeMap (now s)) ⌝ }
+    ensures { λ _. ⌜ now (mem .exit) ≡ savedItts start (decodeMap (now (s .entry)) .devices) (decodeMap (now (s .entry)) .events) (now (mem .entry)) ⌝ }
 {
-    let n = k.ndevices;
+    let n = maplayout::device_count(s);
     let mut i: usize = 0;
     let mut j: usize = 0;
     while i < n {
-        let d = k.devices[i];
-        j = write_itt(mem, start, k, d, j);
+        let d = maplayout::device_at(s, i);
+        j = write_itt(s, mem, start, d, j);
         i += 1;
     }
 }
 
-// The device table, the collection table and the ITTs, written into the guest's memory. No other byte changes.
-pub fn save_tables(g: guest::Guest, k: mapping::Mapping, mem: &mut [u8])
-    requires { ⌜ Saveable g k (length (now mem)) ⌝ }
-    ensures { λ _. ⌜ now (mem .exit) ≡ savedMemory (view g) (rows k) (now (mem .entry)) ⌝ }
+// The device table, the collection table and the ITTs of the mapping that the state's bytes hold, written into the guest's memory. No
+// other byte changes.
+pub fn save_tables(s: &[u8], mem: &mut [u8])
+    requires { ⌜ Saveable (now s) (length (now mem)) ⌝ }
+    ensures { λ _. ⌜ now (mem .exit) ≡ savedMemory (decode (now (s .entry))) (decodeMap (now (s .entry))) (now (mem .entry)) ⌝ }
 {
-    let start = g.memory.start;
-    let devices = g.tables.devices;
-    let collections = g.tables.collections;
-    write_devices(mem, (devices.start - start) as usize, (512 * devices.pages) as usize, k);
-    write_collections(mem, (collections.start - start) as usize, (512 * collections.pages) as usize, k);
-    write_itts(mem, start, k);
+    let start = layout::load_memory(s).start;
+    let tables = layout::load_tables(s);
+    let devices = tables.devices;
+    let collections = tables.collections;
+    write_devices(s, mem, (devices.start - start) as usize, (512 * devices.pages) as usize);
+    write_collections(s, mem, (collections.start - start) as usize, (512 * collections.pages) as usize);
+    write_itts(s, mem, start);
 }

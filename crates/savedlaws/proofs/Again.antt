@@ -12,7 +12,7 @@ use Rattle.mapping.specs.Mapped.{Mapped}
 use Rattle.mapping.specs.Commands.{tableAreas}
 use Rattle.mapping.specs.MapRules.{isPlaced, mapRules}
 use Rattle.tables.specs.Saved.{savedMemory}
-use Rattle.tables.specs.Described.{Described}
+use Rattle.described.specs.Described.{Described}
 use Rattle.savedlaws.proofs.Saved.{saved-length}
 use Rattle.savedlaws.proofs.Describes.{saved-described}
 use Rattle.savedlaws.proofs.Local.{SameIn, Alike, tables-same, described-local, described-alike}

@@ -13,7 +13,7 @@ use Rattle.mapping.specs.Mapped.{rising}
 use Rattle.chains.specs.Slots.{Slots, Link}
 use Rattle.tables.specs.Bytes.{entryAt}
 use Rattle.tables.specs.Saved.{nextOf, chainWord, tableOf}
-use Rattle.tables.specs.Described.{Chain, Linked}
+use Rattle.described.specs.Described.{Chain, Linked}
 use Rattle.savedlaws.proofs.Member.{all-weaker}
 use Rattle.savedlaws.proofs.Entries.{length-tableOf, entry-tableOf}
 use Rattle.savedlaws.proofs.Rise.{Above, rising-rest, rising-above, rising-first, above-below}

@@ -16,7 +16,8 @@ use Rattle.mapping.specs.declared.Collection.{Collection}
 use Rattle.mapping.specs.Mapped.{collectionKey, rising, noCollection}
 use Rattle.tables.specs.Bytes.{entryAt}
 use Rattle.tables.specs.Saved.{savedCollection, tableOf}
-use Rattle.tables.specs.Described.{collectionAt, Collections}
+use Rattle.tables.specs.Bytes.{collectionAt}
+use Rattle.described.specs.Described.{Collections}
 use Rattle.savedlaws.proofs.Member.{all-of, at-in}
 use Rattle.savedlaws.proofs.Rise.{rising-index}
 use Rattle.savedlaws.proofs.Entries.{length-tableOf, entry-tableOf}

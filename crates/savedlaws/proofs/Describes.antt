@@ -19,7 +19,7 @@ use Rattle.mapping.specs.Commands.{deviceEntries}
 use Rattle.mapping.specs.MapRules.{isPlaced, mapRules}
 use Rattle.tables.specs.Bytes.{deviceCap, eventCap, deviceSlots, eventSlots}
 use Rattle.tables.specs.Saved.{deviceEntry, eventEntry, eventId, eventsOf, savedDevice, savedEvent, tableOf, savedMemory}
-use Rattle.tables.specs.Described.{Chain, DeviceFields, Itt, Described}
+use Rattle.described.specs.Described.{Chain, DeviceFields, Itt, Described}
 use Rattle.savedlaws.proofs.Member.{In, all-in, all-of, all-weaker, all-both}
 use Rattle.savedlaws.proofs.Parts.{Ok, ok, placed-ok}
 use Rattle.savedlaws.proofs.Places.{collections-set}

@@ -16,7 +16,7 @@ use Rattle.mapping.specs.Mapped.{Mapped, ittArea}
 use Rattle.mapping.specs.Commands.{tableAreas}
 use Rattle.mapping.specs.MapRules.{isPlaced, deviceOk, collectionOk, mappingOk}
 use Rattle.tables.specs.Bytes.{areaBytes, deviceTable, collectionTable, ittTable}
-use Rattle.tables.specs.Described.{Described}
+use Rattle.described.specs.Described.{Described}
 use Rattle.savedlaws.proofs.Member.{all-of, all-both, all-first, all-rest, map-all}
 use Rattle.savedlaws.proofs.Parts.{ok}
 use Rattle.savedlaws.proofs.Places.{devices-inside, collections-inside, within}

@@ -22,7 +22,7 @@ use Rattle.mapping.specs.declared.Event.{Event}
 use Rattle.mapping.specs.Mapped.{Mapped, deviceKey, collectionKey, eventKey, rising, ittArea, noCollection}
 use Rattle.tables.specs.Bytes.{deviceCap, eventCap}
 use Rattle.tables.specs.Saved.{deviceEntry, eventEntry, eventId, eventsOf, isOf}
-use Rattle.tables.specs.Described.{DeviceFields, EventFields}
+use Rattle.described.specs.Described.{DeviceFields, EventFields}
 use Rattle.savedlaws.proofs.Member.{In, all-in, all-weaker, all-both, all-kept, kept-pass}
 use Rattle.savedlaws.proofs.Rise.{found-key, rising-kept, rising-once, rising-by}
 use Rattle.savedlaws.proofs.Parts.{CollectionParts, DeviceParts, Fit, Ok}

@@ -5,10 +5,12 @@ use lib.ListN.{length, take, drop}
 use Rattle.words.specs.Words.{leAt}
 use Rattle.areas.specs.declared.Area.{Area}
 use Rattle.entries.specs.Device.{isDevice, deviceOf}
+use Rattle.entries.specs.Collection.{collectionOf}
 use Rattle.entries.specs.Event.{isEvent, eventOf}
 use Rattle.guest.specs.Machine.{Machine}
 use Rattle.rules.specs.Rules.{tableArea}
 use Rattle.mapping.specs.declared.Device.{Device}
+use Rattle.mapping.specs.declared.Collection.{Collection}
 use Rattle.mapping.specs.Mapped.{ittArea}
 use Rattle.chains.specs.Slots.{Slots}
 
@@ -28,6 +30,10 @@ collectionTable m mem = areaBytes m mem (tableArea (m .tables .collections))
 
 abbrev pub ittTable : Machine → List ℕ → Device → List ℕ
 ittTable m mem d = areaBytes m mem (ittArea d)
+
+-- the collection that entry i of a collection table holds
+abbrev pub collectionAt : List ℕ → ℕ → Collection
+collectionAt t i = record { icid = collectionOf (entryAt t i) .icid; pe = collectionOf (entryAt t i) .pe }
 
 -- "at most 16,383 for devices and 65,535 for events"
 abbrev pub deviceCap : ℕ

@@ -1,4 +1,3 @@
 pub mod Bytes
 pub mod Saved
-pub mod Described
 pub mod Restored

@@ -17,8 +17,7 @@ use Rattle.mapping.specs.declared.Event.{Event}
 use Rattle.mapping.specs.Mapped.{Mapped, empty, collectionKey, placeOf, insertedAt, ittArea}
 use Rattle.mapping.specs.Commands.{tableAreas, hasCollection, withCollections, withDevices, withEvents}
 use Rattle.chains.specs.Slots.{Slots, Path, final, broken, onto, path, firstFrom}
-use Rattle.tables.specs.Bytes.{entryAt, deviceTable, collectionTable, ittTable, deviceSlots, eventSlots}
-use Rattle.tables.specs.Described.{collectionAt}
+use Rattle.tables.specs.Bytes.{entryAt, collectionAt, deviceTable, collectionTable, ittTable, deviceSlots, eventSlots}
 
 -- a fault's number, or the mapping so far
 pub data Out : Type 0 where
@@ -29,7 +28,8 @@ abbrev pub andThen : Out → (Mapped → Out) → Out
 andThen (fault e) f = fault e
 andThen (found k) f = f k
 
--- the entries of a path are visited in order; a next that is a fault is met before the entry's other faults
+-- the entries of a path are visited in order; a next that is a fault is met before the entry's other faults. For events document 01 lists
+-- the LPI first: the numbers of both are -22, so that no table tells the two orders apart.
 unfoldable pub run : (ℕ → Mapped → Out) → Path → Mapped → Out
 run visit (broken i) k = fault 22
 run visit (final i) k = visit i k
@@ -75,7 +75,7 @@ visitEvent t id i k =
 unfoldable pub readEvents : List ℕ → ℕ → Mapped → Out
 readEvents t id k = walk (eventSlots t) (visitEvent t id) k
 
--- "then devices rising: next -22; size -22; 33rd -12; ITT outside memory -14; overlap -22; then its events"
+-- "then devices rising: next -22 ..; size -22; 33rd -12; ITT outside memory -14; overlap -22; then its events"
 abbrev pub deviceAt : List ℕ → ℕ → Device
 deviceAt t i = record { id = i; itt = deviceOf (entryAt t i) .itt; bits = deviceOf (entryAt t i) .bits }
 

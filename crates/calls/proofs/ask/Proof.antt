@@ -1,14 +1,10 @@
+-- `calls::ask` meets its contract. Assumes nothing.
 use mathlib.Core.Path.{_≡_, sym, _∙_}
 use borrow.Author.Tests.{not-true, not-false}
-use Rattle.calls.proofs.Laws.{ask-short, ask-unsound, ask-answers}
 use borrow.Author.Needs.{needs}
+use Rattle.calls.proofs.Laws.{parts, guest-kept, ask-short, ask-unsound, ask-answers}
 use Rattle.calls.proofs.ask.Statement.{statement}
 use Rattle.calls.proofs.ask.Tie as tie
-use Rattle.calls.proofs.ask.Reads as reads
-use Rattle.calls.proofs.ask.Lts as lts
-use Rattle.calls.proofs.answer.Reads as answer-reads
-use Rattle.calls.proofs.examine.Reads as examine-reads
-use Rattle.guest.proofs.told.Reads as told-reads
 
 told-requires : tie.Need-told-requires
 told-requires c κs = search needs
@@ -16,20 +12,32 @@ told-requires c κs = search needs
 returns : tie.Need-returns
 returns c = ask-short _ _ _ (c .before .if1 .taken) (c .told .ensures)
 
-examine-requires : tie.Need-examine-requires
-examine-requires c κs = search needs
+is-sound-requires : tie.Need-is-sound-requires
+is-sound-requires c κs = search needs
 
 told-requires-2 : tie.Need-told-requires-2
 told-requires-2 c κs = search needs
 
 returns-2 : tie.Need-returns-2
-returns-2 c = ask-unsound _ _ (c .before .before .before .before .if1 .left) _ (c .before .before .before .examine .ensures) _ (not-true _ (c .before .if2 .taken)) (c .told2 .ensures)
+returns-2 c =
+    let t = c .before in
+    ask-unsound _ _ (t .before .before .if1 .left) _ (sym (t .before .is-sound .ensures) ∙ not-true _ (t .if2 .taken)) (c .told2 .ensures)
+
+load-guest-requires : tie.Need-load-guest-requires
+load-guest-requires c κs =
+    (c .before .before .if1 .left, parts _ (sym (c .before .is-sound .ensures) ∙ not-false _ (c .if2 .left)) .counts)
 
 answer-requires : tie.Need-answer-requires
-answer-requires c κs = c .before .before .before .examine .ensures .stands (not-false _ (c .before .if2 .left)) .kept .guest
+answer-requires c κs =
+    let e = c .before in
+    guest-kept _ (sym (e .before .is-sound .ensures) ∙ not-false _ (e .if2 .left)) _ (c .load-guest .ensures)
 
 returns-3 : tie.Need-returns-3
-returns-3 c = ask-answers _ _ (c .before .before .before .before .before .if1 .left) _ (c .before .before .before .before .examine .ensures) _ (not-false _ (c .before .before .if2 .left)) (c .answer .ensures)
+returns-3 c =
+    let g = c .before in
+    let e = g .before in
+    ask-answers _ _ (e .before .before .if1 .left) _ (sym (e .before .is-sound .ensures) ∙ not-false _ (e .if2 .left))
+    (g .load-guest .result) (g .load-guest .ensures .0) (c .answer .ensures)
 
 pub ask-spec : {M : Type 1} → statement M
 ask-spec =
@@ -37,8 +45,9 @@ ask-spec =
     (tie.spec
     told-requires
     returns
-    examine-requires
+    is-sound-requires
     told-requires-2
     returns-2
+    load-guest-requires
     answer-requires
     returns-3)

@@ -2,41 +2,40 @@
 use Prim.Native.Nat.{_≤_, _-_}
 use native.Mathlib.Omega.{arith}
 use mathlib.Core.Path.{_≡_, refl, sym, _∙_}
+use lib.ListN.{drop}
 use borrow.Author.Needs.{needs}
-use lib.ListN.{length, take, drop, length-map}
+use Rattle.layout.specs.Layout.{decode}
 use Rattle.rules.specs.Rules.{distinct}
-use Rattle.rules.proofs.Rows.{distinct-here, distinct-later, distinct-end}
+use Rattle.keeps.proofs.Rows.{distinct-here, distinct-later, distinct-end}
 use Rattle.keeps.proofs.distinct_ok.Statement.{statement}
 use Rattle.keeps.proofs.distinct_ok.Tie as tie
 
 abbrev Inv-loop : tie.InvT-loop
-Inv-loop v n i₀ i = (i ≤ n) × (distinct (take (v .count) (v .rows)) ≡ distinct (drop i (take (v .count) (v .rows))))
+Inv-loop s n i₀ i = (i ≤ n) × (distinct (decode s .vcpus) ≡ distinct (drop i (decode s .vcpus)))
 
 abbrev μ-loop : tie.MeasureT-loop
-μ-loop v n i₀ i = n - i
+μ-loop s n i₀ i = n - i
+
+vcpu-count-requires : tie.Need-vcpu-count-requires Inv-loop μ-loop
+vcpu-count-requires c κs = c .before .pre
 
 loop-holds : tie.Need-loop-holds Inv-loop μ-loop
 loop-holds c = (omega arith, refl)
 
-mul-row : tie.Need-mul-row Inv-loop μ-loop
-mul-row c = search needs
-
-element-copy-out-row : tie.Need-element-copy-out-row Inv-loop μ-loop
-element-copy-out-row c = search needs
+vcpu-at-requires : tie.Need-vcpu-at-requires Inv-loop μ-loop
+vcpu-at-requires c κs = (c .before .before .before .before .pre, omega (arith, c .loop-test .taken, c .before .before .vcpu-count .ensures))
 
 add-taken-from : tie.Need-add-taken-from Inv-loop μ-loop
 add-taken-from c = search needs
 
 taken-from-requires : tie.Need-taken-from-requires Inv-loop μ-loop
-taken-from-requires c κs = search needs
+taken-from-requires c κs = (c .before .before .before .before .before .pre, omega (arith, c .before .loop-test .taken, c .before .before .before .vcpu-count .ensures))
 
 returns : tie.Need-returns Inv-loop μ-loop
 returns c =
-    let s = c .before .before .before .before .before in
-    let l : length (s .args .t1 .rows) ≡ 64 = simp length-map at (s .good .0 .1 .1 .0 .1 .0 .1) in
-    sym (c .before .before .before .before .loop .inv .1
-    ∙ distinct-here (s .args .t1 .count) (s .args .t1 .rows) _ (omega (arith, s .pre)) (c .before .before .before .loop-test .taken)
-    (sym (c .before .taken-from .ensures) ∙ c .if1 .taken))
+    let a = c .before .before .before .before in
+    sym (a .loop .inv .1
+    ∙ distinct-here _ _ (a .before .vcpu-count .ensures) _ _ (c .before .before .vcpu-at .ensures) (c .before .before .before .loop-test .taken) (sym (c .before .taken-from .ensures) ∙ c .if1 .taken))
 
 add-i : tie.Need-add-i Inv-loop μ-loop
 add-i c = search needs
@@ -46,20 +45,14 @@ loop-less c = search needs
 
 loop-again : tie.Need-loop-again Inv-loop μ-loop
 loop-again c =
-    let s = c .before .before .before .before .before in
-    let l : length (s .args .t1 .rows) ≡ 64 = simp length-map at (s .good .0 .1 .1 .0 .1 .0 .1) in (
+    let a = c .before .before .before .before in (
       omega arith,
-      c .before .before .before .before .loop .inv .1
-          ∙ distinct-later (s .args .t1 .count) (s .args .t1 .rows) _ (omega (arith, s .pre)) (c .before .before .before .loop-test .taken)
-          (sym (c .before .taken-from .ensures) ∙ c .if1 .left),
+      a .loop .inv .1
+          ∙ distinct-later _ _ (a .before .vcpu-count .ensures) _ _ (c .before .before .vcpu-at .ensures) (c .before .before .before .loop-test .taken) (sym (c .before .taken-from .ensures) ∙ c .if1 .left),
     )
 
 returns-2 : tie.Need-returns-2 Inv-loop μ-loop
-returns-2 c =
-    let s = c .before .before in
-    let l : length (s .args .t1 .rows) ≡ 64 = simp length-map at (s .good .0 .1 .1 .0 .1 .0 .1) in
-    sym (c .before .loop .inv .1
-    ∙ distinct-end (s .args .t1 .count) (s .args .t1 .rows) _ (omega (arith, s .pre)) (c .loop-test .left))
+returns-2 c = sym (c .before .loop .inv .1 ∙ distinct-end _ _ (c .before .before .vcpu-count .ensures) _ (c .loop-test .left))
 
 pub distinct-ok-spec : {M : Type 1} → statement M
 distinct-ok-spec =
@@ -67,9 +60,9 @@ distinct-ok-spec =
     (tie.spec
     Inv-loop
     μ-loop
+    vcpu-count-requires
     loop-holds
-    mul-row
-    element-copy-out-row
+    vcpu-at-requires
     add-taken-from
     taken-from-requires
     returns

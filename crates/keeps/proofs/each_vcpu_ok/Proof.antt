@@ -1,42 +1,42 @@
 -- `keeps::each_vcpu_ok` meets its contract. The loop's invariant: every VCPU passed is right. Assumes nothing.
 use Prim.Native.Nat.{ℕ, _≤_, _<_, _-_}
 use native.Mathlib.Omega.{arith}
+use native.Mathlib.Nat.{not-suc-le-zero}
 use mathlib.Core.Path.{_≡_, sym}
 use mathlib.Core.Bool.{true}
-use borrow.Author.Needs.{needs}
-use native.Mathlib.Nat.{not-suc-le-zero}
-use lib.ListN.{length, getD, length-map}
+use lib.ListN.{getD}
 use borrow.Author.Count.{below-more}
-use Rattle.lists.proofs.Find.{rows-fail, rows-hold}
+use borrow.Author.Needs.{needs}
+use Rattle.guest.specs.Machine.{noVcpu}
+use Rattle.layout.specs.Layout.{decode}
 use Rattle.rules.specs.Rules.{vcpuOk}
-use Rattle.rules.proofs.Rows.{blankVcpu}
 use Rattle.keeps.proofs.Verdicts.{passed, failed}
+use Rattle.keeps.proofs.Rows.{rows-fail, rows-hold}
 use Rattle.keeps.proofs.each_vcpu_ok.Statement.{statement}
 use Rattle.keeps.proofs.each_vcpu_ok.Tie as tie
 
 abbrev Inv-loop : tie.InvT-loop
-Inv-loop v n i₀ i = (i ≤ n) × ((k : ℕ) → k < i → vcpuOk (getD (v .rows) k blankVcpu) ≡ true)
+Inv-loop s n i₀ i = (i ≤ n) × ((k : ℕ) → k < i → vcpuOk (getD (decode s .vcpus) k (noVcpu 0)) ≡ true)
 
 abbrev μ-loop : tie.MeasureT-loop
-μ-loop v n i₀ i = n - i
+μ-loop s n i₀ i = n - i
+
+vcpu-count-requires : tie.Need-vcpu-count-requires Inv-loop μ-loop
+vcpu-count-requires c κs = c .before .pre
 
 loop-holds : tie.Need-loop-holds Inv-loop μ-loop
 loop-holds c = (omega arith, λ k h. absurd (not-suc-le-zero h))
 
-mul-row : tie.Need-mul-row Inv-loop μ-loop
-mul-row c = search needs
-
-element-copy-out-row : tie.Need-element-copy-out-row Inv-loop μ-loop
-element-copy-out-row c = search needs
+vcpu-at-requires : tie.Need-vcpu-at-requires Inv-loop μ-loop
+vcpu-at-requires c κs = (c .before .before .before .before .pre, omega (arith, c .loop-test .taken, c .before .before .vcpu-count .ensures))
 
 vcpu-ok-requires : tie.Need-vcpu-ok-requires Inv-loop μ-loop
 vcpu-ok-requires c κs = search needs
 
 returns : tie.Need-returns Inv-loop μ-loop
 returns c =
-    let s = c .before .before .before .before .before in
-    let l : length (s .args .t1 .rows) ≡ 64 = simp length-map at (s .good .0 .1 .1 .0 .1 .0 .1) in
-    sym (rows-fail vcpuOk blankVcpu (s .args .t1 .count) (s .args .t1 .rows) _ (omega (arith, s .pre)) (c .before .before .before .loop-test .taken)
+    let a = c .before .before .before .before in
+    sym (rows-fail _ _ (a .before .vcpu-count .ensures) vcpuOk (noVcpu 0) _ _ (c .before .before .vcpu-at .ensures) (c .before .before .before .loop-test .taken)
     (failed (c .before .vcpu-ok .ensures) (c .if1 .taken)))
 
 add-i : tie.Need-add-i Inv-loop μ-loop
@@ -46,13 +46,10 @@ loop-less : tie.Need-loop-less Inv-loop μ-loop
 loop-less c = search needs
 
 loop-again : tie.Need-loop-again Inv-loop μ-loop
-loop-again c = (omega arith, below-more _ _ (c .before .before .before .before .loop .inv .1) (passed (c .before .vcpu-ok .ensures) (c .if1 .left)))
+loop-again c = (omega arith, below-more _ _ (c .before .before .before .before .loop .inv .1) (rw (c .before .before .vcpu-at .ensures) at (passed (c .before .vcpu-ok .ensures) (c .if1 .left))))
 
 returns-2 : tie.Need-returns-2 Inv-loop μ-loop
-returns-2 c =
-    let s = c .before .before in
-    let l : length (s .args .t1 .rows) ≡ 64 = simp length-map at (s .good .0 .1 .1 .0 .1 .0 .1) in
-    sym (rows-hold vcpuOk blankVcpu (s .args .t1 .count) (s .args .t1 .rows) (omega (arith, s .pre)) (λ k h. c .before .loop .inv .1 k (omega arith)))
+returns-2 c = sym (rows-hold _ _ (c .before .before .vcpu-count .ensures) vcpuOk (noVcpu 0) _ (c .loop-test .left) (c .before .loop .inv .1))
 
 pub each-vcpu-ok-spec : {M : Type 1} → statement M
 each-vcpu-ok-spec =
@@ -60,9 +57,9 @@ each-vcpu-ok-spec =
     (tie.spec
     Inv-loop
     μ-loop
+    vcpu-count-requires
     loop-holds
-    mul-row
-    element-copy-out-row
+    vcpu-at-requires
     vcpu-ok-requires
     returns
     add-i

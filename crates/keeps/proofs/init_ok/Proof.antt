@@ -1,44 +1,53 @@
 -- `keeps::init_ok` meets its contract: a test that fails breaks a part of the rule, and the last one decides. Assumes nothing.
-use native.Mathlib.Omega.{arith}
-use mathlib.Core.Path.{_≡_}
-use Rattle.areas.proofs.Tests.{refuted}
-use lib.ListN.{length, length-map}
-use lib.Seq.{length-take-le}
-use Rattle.rules.proofs.Parts.{init-parts}
-use Rattle.keeps.proofs.Verdicts.{init-open, init-single, init-last}
 use borrow.Author.Needs.{needs}
+use Rattle.keeps.proofs.Verdicts.{init-open, init-none, init-bare, init-single, init-last}
 use Rattle.keeps.proofs.init_ok.Statement.{statement}
 use Rattle.keeps.proofs.init_ok.Tie as tie
 
+vcpu-count-requires : tie.Need-vcpu-count-requires
+vcpu-count-requires c κs = search needs
+
 returns : tie.Need-returns
-returns c = init-open _ (c .if1 .taken)
+returns c =
+    let a = c .before in
+    let s = a .before .before .before .before in
+    init-open _ _ _ _ (s .pre .1 .0) (s .pre .1 .1) (a .vcpu-count .ensures) (c .if1 .taken)
 
 returns-2 : tie.Need-returns-2
 returns-2 c =
-    let s = c .before .before .before .before .before .before .before .before .before .before in
-    let l : length (s .args .g .vcpus .rows) ≡ 64 = simp length-map at (s .good .0 .1 .1 .1 .1 .1 .1 .0 .1 .1 .0 .1 .0 .1) in
-    let n = length-take-le (s .args .g .vcpus .count) (s .args .g .vcpus .rows) (omega (arith, s .pre .vcpus)) in
-    refuted _ (λ e. omega (arith, init-parts _ e (c .before .before .if1 .left) .some))
+    let a = c .before .before in
+    let s = a .before .before .before .before in
+    init-none _ _ _ _ (s .pre .1 .0) (s .pre .1 .1) (a .vcpu-count .ensures) (c .before .if1 .left) (c .if2 .taken)
 
 returns-3 : tie.Need-returns-3
-returns-3 c = refuted _ (λ e. c .if3 .taken (init-parts _ e (c .before .before .before .before .if1 .left) .distributor))
+returns-3 c =
+    let a = c .before .before .before .before in
+    let s = a .before .before .before .before in
+    init-bare _ _ _ _ (s .pre .1 .0) (s .pre .1 .1) (a .vcpu-count .ensures) (c .before .before .before .if1 .left) (c .if3 .taken)
 
 returns-4 : tie.Need-returns-4
 returns-4 c =
-    let s = c .before .before .before .before .before .before .before .before .before .before .before .before .before .before in
-    let l : length (s .args .g .vcpus .rows) ≡ 64 = simp length-map at (s .good .0 .1 .1 .1 .1 .1 .1 .0 .1 .1 .0 .1 .0 .1) in
-    let n = length-take-le (s .args .g .vcpus .count) (s .args .g .vcpus .rows) (omega (arith, s .pre .vcpus)) in
-    init-single _ (omega arith) (c .before .before .if3 .left) (c .if4 .taken)
+    let a = c .before .before .before .before .before .before in
+    let s = a .before .before .before .before in
+    init-single _ _ _ _ (s .pre .1 .0) (s .pre .1 .1) (a .vcpu-count .ensures) (c .before .before .before .before .if2 .left) (c .before .before .if3 .left) (c .if4 .taken)
 
 covers-requires : tie.Need-covers-requires
 covers-requires c κs = search needs
 
 returns-5 : tie.Need-returns-5
 returns-5 c =
-    let s = c .before .before .before .before .before .before .before .before .before .before .before .before .before .before .before in
-    let l : length (s .args .g .vcpus .rows) ≡ 64 = simp length-map at (s .good .0 .1 .1 .1 .1 .1 .1 .0 .1 .1 .0 .1 .0 .1) in
-    let n = length-take-le (s .args .g .vcpus .count) (s .args .g .vcpus .rows) (omega (arith, s .pre .vcpus)) in
-    init-last _ (c .before .before .before .before .before .before .before .if1 .left) (omega arith) (c .before .before .before .if3 .left) (c .before .if4 .left) (rw n (c .covers .ensures))
+    let a = c .before .before .before .before .before .before .before in
+    let s = a .before .before .before .before in
+    init-last _ _ _ _ (s .pre .1 .0) (s .pre .1 .1) (a .vcpu-count .ensures) (c .before .before .before .before .before .before .if1 .left) (c .before .before .before .before .before .if2 .left) (c .before .before .before .if3 .left) (c .before .if4 .left) (c .covers .ensures)
 
 pub init-ok-spec : {M : Type 1} → statement M
-init-ok-spec = tie.close (tie.spec returns returns-2 returns-3 returns-4 covers-requires returns-5)
+init-ok-spec =
+    tie.close
+    (tie.spec
+    vcpu-count-requires
+    returns
+    returns-2
+    returns-3
+    returns-4
+    covers-requires
+    returns-5)

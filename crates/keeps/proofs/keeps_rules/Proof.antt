@@ -1,76 +1,124 @@
 -- `keeps::keeps_rules` meets its contract: a test that fails breaks a rule, and the last one decides. Assumes nothing.
+use Prim.Native.Nat.{_^_}
 use native.Mathlib.Omega.{arith}
+use mathlib.Core.Path.{ap, _∙_}
 use Rattle.areas.proofs.Tests.{refuted, clash}
-use Rattle.rules.proofs.Parts.{rules-parts, memory-parts, control-parts, irqs-parts}
-use Rattle.keeps.proofs.Verdicts.{rules-last, rules-counts, passed, failed}
 use borrow.Author.Needs.{needs}
+use Rattle.guest.specs.declared.Memory.{Memory}
+use Rattle.guest.specs.declared.Control.{Control}
+use Rattle.rules.proofs.Parts.{memory-parts}
+use Rattle.keeps.proofs.Verdicts.{memory-read, control-read, frames-read, rules-hold, rules-last, passed, failed}
 use Rattle.keeps.proofs.keeps_rules.Statement.{statement}
 use Rattle.keeps.proofs.keeps_rules.Tie as tie
+
+load-memory-requires : tie.Need-load-memory-requires
+load-memory-requires c κs = search needs
+
+load-control-requires : tie.Need-load-control-requires
+load-control-requires c κs = search needs
+
+load-frames-requires : tie.Need-load-frames-requires
+load-frames-requires c κs = search needs
 
 memory-ok-requires : tie.Need-memory-ok-requires
 memory-ok-requires c κs = search needs
 
 returns : tie.Need-returns
-returns c = refuted _ (λ e. clash (rules-parts _ e .memory) (failed (c .before .memory-ok .ensures) (c .if1 .taken)))
+returns c =
+    let a = c .before .before .before in
+    refuted _ (λ e. clash (rules-hold _ _ _ _ (a .before .before .load-memory .ensures) (a .before .load-control .ensures) (a .load-frames .ensures) e .memory)
+    (failed (c .before .memory-ok .ensures) (c .if1 .taken)))
 
 control-ok-requires : tie.Need-control-ok-requires
 control-ok-requires c κs = search needs
 
 returns-2 : tie.Need-returns-2
-returns-2 c = refuted _ (λ e. clash (rules-parts _ e .control) (failed (c .before .control-ok .ensures) (c .if2 .taken)))
+returns-2 c =
+    let a = c .before .before .before .before .before in
+    refuted _ (λ e. clash (rules-hold _ _ _ _ (a .before .before .load-memory .ensures) (a .before .load-control .ensures) (a .load-frames .ensures) e .control)
+    (failed (c .before .control-ok .ensures) (c .if2 .taken)))
+
+limit-requires : tie.Need-limit-requires
+limit-requires c κs = memory-parts _ (passed (c .before .before .before .memory-ok .ensures) (c .before .before .if1 .left)) .narrow
 
 frames-ok-requires : tie.Need-frames-ok-requires
-frames-ok-requires c κs = (c .before .before .before .before .before .before .before .pre, memory-parts _ (passed (c .before .before .before .memory-ok .ensures) (c .before .before .if1 .left)) .narrow)
+frames-ok-requires c κs =
+    let a = c .before .before .before .before .before .before in (
+      a .before .before .before .before .pre,
+      (
+        c .limit .ensures ∙ ap (λ (x : Memory). 2 ^ x .width) (memory-read _ (a .before .before .load-memory .ensures)),
+        ap (λ (x : Control). x .init) (control-read _ (a .before .load-control .ensures)),
+        frames-read _ (a .load-frames .ensures),
+      ),
+    )
 
 returns-3 : tie.Need-returns-3
-returns-3 c = refuted _ (λ e. clash (rules-parts _ e .frames) (failed (c .before .frames-ok .ensures) (c .if3 .taken)))
+returns-3 c =
+    let a = c .before .before .before .before .before .before .before .before in
+    refuted _ (λ e. clash (rules-hold _ _ _ _ (a .before .before .load-memory .ensures) (a .before .load-control .ensures) (a .load-frames .ensures) e .frames)
+    (failed (c .before .frames-ok .ensures) (c .if3 .taken)))
 
 init-ok-requires : tie.Need-init-ok-requires
-init-ok-requires c κs = search needs
+init-ok-requires c κs =
+    let a = c .before .before .before .before .before .before .before .before in
+    (a .before .before .before .before .pre, (ap (λ (x : Control). x .init) (control-read _ (a .before .load-control .ensures)), frames-read _ (a .load-frames .ensures)))
 
 returns-4 : tie.Need-returns-4
-returns-4 c = refuted _ (λ e. clash (rules-parts _ e .init) (failed (c .before .init-ok .ensures) (c .if4 .taken)))
+returns-4 c =
+    let a = c .before .before .before .before .before .before .before .before .before .before in
+    refuted _ (λ e. clash (rules-hold _ _ _ _ (a .before .before .load-memory .ensures) (a .before .load-control .ensures) (a .load-frames .ensures) e .init)
+    (failed (c .before .init-ok .ensures) (c .if4 .taken)))
 
 vcpus-ok-requires : tie.Need-vcpus-ok-requires
 vcpus-ok-requires c κs = search needs
 
 returns-5 : tie.Need-returns-5
-returns-5 c = refuted _ (λ e. clash (rules-parts _ e .vcpus) (failed (c .before .vcpus-ok .ensures) (c .if5 .taken)))
-
-counts-ok-requires : tie.Need-counts-ok-requires
-counts-ok-requires c κs = (c .before .before .before .before .before .before .before .before .before .before .before .before .before .pre, omega (arith, irqs-parts _ (control-parts _ (passed (c .before .before .before .before .before .before .before .control-ok .ensures) (c .before .before .before .before .before .before .if2 .left)) .irqs) .least))
+returns-5 c =
+    let a = c .before .before .before .before .before .before .before .before .before .before .before .before in
+    refuted _ (λ e. clash (rules-hold _ _ _ _ (a .before .before .load-memory .ensures) (a .before .load-control .ensures) (a .load-frames .ensures) e .vcpus)
+    (failed (c .before .vcpus-ok .ensures) (c .if5 .taken)))
 
 returns-6 : tie.Need-returns-6
-returns-6 c = refuted _ (λ e. clash (rules-counts _ (rules-parts _ e)) (failed (c .before .counts-ok .ensures) (c .if6 .taken)))
+returns-6 c =
+    let a = c .before .before .before .before .before .before .before .before .before .before .before .before .before .before .before in
+    refuted _ (λ e. omega (arith, rules-hold _ _ _ _ (a .before .before .load-memory .ensures) (a .before .load-control .ensures) (a .load-frames .ensures) e .its, c .if6 .taken))
 
 tables-ok-requires : tie.Need-tables-ok-requires
-tables-ok-requires c κs = search needs
+tables-ok-requires c κs =
+    let a = c .before .before .before .before .before .before .before .before .before .before .before .before .before .before .before in
+    (a .before .before .before .before .pre, (memory-read _ (a .before .before .load-memory .ensures), ap (λ (x : Control). x .itsinit) (control-read _ (a .before .load-control .ensures))))
 
 returns-7 : tie.Need-returns-7
-returns-7 c = rules-last _
-    (passed (c .before .before .before .before .before .before .before .before .before .before .before .before .memory-ok .ensures) (c .before .before .before .before .before .before .before .before .before .before .before .if1 .left))
-    (passed (c .before .before .before .before .before .before .before .before .before .before .control-ok .ensures) (c .before .before .before .before .before .before .before .before .before .if2 .left))
-    (passed (c .before .before .before .before .before .before .before .before .frames-ok .ensures) (c .before .before .before .before .before .before .before .if3 .left))
-    (passed (c .before .before .before .before .before .before .init-ok .ensures) (c .before .before .before .before .before .if4 .left))
-    (passed (c .before .before .before .before .vcpus-ok .ensures) (c .before .before .before .if5 .left))
-    (passed (c .before .before .counts-ok .ensures) (c .before .if6 .left))
-    (c .tables-ok .ensures)
+returns-7 c =
+    let a = c .before .before .before .before .before .before .before .before .before .before .before .before .before .before .before .before in
+    let f = c .before .before .before .before .before .before .before .before in
+    rules-last _ _ _ _ (a .before .before .load-memory .ensures) (a .before .load-control .ensures) (a .load-frames .ensures) (record {
+      memory = passed (f .before .before .before .before .before .before .memory-ok .ensures) (f .before .before .before .before .before .if1 .left);
+      control = passed (f .before .before .before .before .control-ok .ensures) (f .before .before .before .if2 .left);
+      frames = passed (f .before .frames-ok .ensures) (f .if3 .left);
+      init = passed (c .before .before .before .before .before .before .before .init-ok .ensures) (c .before .before .before .before .before .before .if4 .left);
+      vcpus = passed (c .before .before .before .before .before .vcpus-ok .ensures) (c .before .before .before .before .if5 .left);
+      its = c .before .if6 .left;
+    }) (c .tables-ok .ensures)
 
 pub keeps-rules-spec : {M : Type 1} → statement M
 keeps-rules-spec =
     tie.close
     (tie.spec
+    load-memory-requires
+    load-control-requires
+    load-frames-requires
     memory-ok-requires
     returns
     control-ok-requires
     returns-2
+    limit-requires
     frames-ok-requires
     returns-3
     init-ok-requires
     returns-4
     vcpus-ok-requires
     returns-5
-    counts-ok-requires
     returns-6
     tables-ok-requires
     returns-7)

@@ -1,12 +1,9 @@
 -- `keeps::vcpus_ok` meets its contract: a test that fails breaks a part of the rule, and the last one decides. Assumes nothing.
-use native.Mathlib.Omega.{arith}
-use mathlib.Core.Path.{_≡_}
 use Rattle.areas.proofs.Tests.{refuted, clash}
-use lib.ListN.{length, length-map}
-use lib.Seq.{length-take-le}
+use borrow.Author.Needs.{needs}
+use Rattle.layout.proofs.InPlace.{vcpus-few}
 use Rattle.rules.proofs.Parts.{vcpus-parts}
 use Rattle.keeps.proofs.Verdicts.{vcpus-last, passed, failed}
-use borrow.Author.Needs.{needs}
 use Rattle.keeps.proofs.vcpus_ok.Statement.{statement}
 use Rattle.keeps.proofs.vcpus_ok.Tie as tie
 
@@ -20,11 +17,7 @@ distinct-ok-requires : tie.Need-distinct-ok-requires
 distinct-ok-requires c κs = search needs
 
 returns-2 : tie.Need-returns-2
-returns-2 c =
-    let s = c .before .before .before in
-    let l : length (s .args .v .rows) ≡ 64 = simp length-map at (s .good .0 .1 .1 .0 .1 .0 .1) in
-    let n = length-take-le (s .args .v .count) (s .args .v .rows) (omega (arith, s .pre)) in
-    vcpus-last _ (omega (arith, s .pre)) (passed (c .before .before .each-vcpu-ok .ensures) (c .before .if1 .left)) (c .distinct-ok .ensures)
+returns-2 c = vcpus-last _ (vcpus-few _ (c .before .before .before .before .pre)) (passed (c .before .before .each-vcpu-ok .ensures) (c .before .if1 .left)) (c .distinct-ok .ensures)
 
 pub vcpus-ok-spec : {M : Type 1} → statement M
 vcpus-ok-spec = tie.close (tie.spec each-vcpu-ok-requires returns distinct-ok-requires returns-2)

@@ -1,23 +1,22 @@
 -- `mapcheck::keeps_map_rules` meets its contract: the first test that fails decides, or the last. Assumes nothing.
 use mathlib.Core.Bool.{true}
-use mathlib.Core.Path.{_≡_}
+use mathlib.Core.Path.{_≡_, ap, sym, _∙_}
 use borrow.Author.Needs.{needs}
 use Rattle.lists.specs.Rows.{all}
-use Rattle.guest.specs.Machine.{view}
+use Rattle.guest.specs.declared.Tables.{Tables}
+use Rattle.layout.specs.Layout.{decode}
 use Rattle.rules.proofs.Facts.{sound-devices}
-use Rattle.mapping.proofs.Counts.{Full, full-of, devices-count, collections-count, events-count}
-use Rattle.mapping.specs.MapRules.{collectionOk, deviceOk, smallDevice}
-use Rattle.mapping.specs.Mapped.{rows}
-use Rattle.mapcheck.proofs.Verdicts.{Placed, rises, passed, failed, devices-small, unplaced, not-rising, bad-collections, bad-devices, bad-tables, events-last}
+use Rattle.mapping.specs.MapRules.{collectionOk, deviceOk}
+use Rattle.maplayout.specs.MapLayout.{decodeMap}
+use Rattle.maplayout.proofs.InPlace.{collections-few, devices-few, events-few}
+use Rattle.mapcheck.specs.Examined.{Sized}
+use Rattle.mapcheck.proofs.Verdicts.{Placed, rises, devices-rise, passed, failed, tables-read, devices-small, unplaced, not-rising, bad-collections, bad-devices, bad-tables, events-last}
 use Rattle.mapcheck.proofs.keeps_map_rules.Statement.{statement}
 use Rattle.mapcheck.proofs.keeps_map_rules.Tie as tie
 
-full : (s : tie.Start) → Full (s .args .k)
-full s = full-of _ _ (s .good .1 .0 .1 .1)
-
 -- the entry, from each place where a test was passed
 abbrev entry1 : tie.Else1 → tie.Start
-entry1 c = c .before .before
+entry1 c = c .before .before .before .before
 
 abbrev entry2 : tie.Else2 → tie.Start
 entry2 c = entry1 (c .before .before)
@@ -28,36 +27,45 @@ entry3 c = entry2 (c .before .before)
 abbrev entry4 : tie.Else4 → tie.Start
 entry4 c = entry3 (c .before .before)
 
+-- whether tables are placed, as the code reads it
+set : (c : tie.After-load-tables) → c .load-tables .result .devices .set ≡ decode (c .before .before .args .s .now) .tables .devices .set
+set c = ap (λ (t : Tables). t .devices .set) (tables-read _ (c .load-tables .ensures))
+
 -- what each test that was passed says
-placed : (c : tie.Else1) → Placed (view (entry1 c .args .g)) (rows (entry1 c .args .k))
+placed : (c : tie.Else1) → Placed (decode (entry1 c .args .s .now)) (decodeMap (entry1 c .args .s .now))
 placed c =
     let s = entry1 c in
     record {
-      set = c .if1 .left;
-      collections = rw (collections-count _ (full s) (s .pre .1)) (s .pre .1 .collections);
-      devices = rw (devices-count _ (full s) (s .pre .1)) (s .pre .1 .devices);
-      events = rw (events-count _ (full s) (s .pre .1)) (s .pre .1 .events);
+      set = sym (set (c .before .before)) ∙ c .if1 .left;
+      collections = collections-few _ (s .pre .mapping);
+      devices = devices-few _ (s .pre .mapping);
+      events = events-few _ (s .pre .mapping);
     }
 
-rise : (c : tie.Else2) → rises (view (entry2 c .args .g)) (rows (entry2 c .args .k)) ≡ true
+rise : (c : tie.Else2) → rises (decodeMap (entry2 c .args .s .now)) ≡ true
 rise c = passed (c .before .rows-rise .ensures) (c .if2 .left)
 
-collections : (c : tie.Else3) → all (collectionOk (view (entry3 c .args .g))) (rows (entry3 c .args .k) .collections) ≡ true
+collections : (c : tie.Else3) → all (collectionOk (decode (entry3 c .args .s .now))) (decodeMap (entry3 c .args .s .now) .collections) ≡ true
 collections c = passed (c .before .collections-ok .ensures) (c .if3 .left)
 
-devices : (c : tie.Else4) → all (deviceOk (view (entry4 c .args .g))) (rows (entry4 c .args .k) .devices) ≡ true
+devices : (c : tie.Else4) → all (deviceOk (decode (entry4 c .args .s .now))) (decodeMap (entry4 c .args .s .now) .devices) ≡ true
 devices c = passed (c .before .devices-ok .ensures) (c .if4 .left)
 
-small : (c : tie.Else4) → all smallDevice (rows (entry4 c .args .k) .devices) ≡ true
-small c =
+sized : (c : tie.Else4) → Sized (entry4 c .args .s .now)
+sized c =
     let s = entry4 c in
-    devices-small (view (s .args .g)) (rows (s .args .k) .devices) (sound-devices (view (s .args .g)) (s .pre .0 .rules) .most) (devices c)
+    record { counted = s .pre .mapping; small = devices-small _ _ (sound-devices _ (s .pre .rules) .most) (devices c) }
+
+load-tables-requires : tie.Need-load-tables-requires
+load-tables-requires c κs = search needs
 
 is-empty-requires : tie.Need-is-empty-requires
 is-empty-requires c κs = search needs
 
 returns : tie.Need-returns
-returns c = unplaced _ _ (c .before .if1 .taken) (c .is-empty .ensures)
+returns c =
+    let t = c .before in
+    unplaced _ _ (λ e. t .if1 .taken (set (t .before .before) ∙ e)) (c .is-empty .ensures)
 
 rows-rise-requires : tie.Need-rows-rise-requires
 rows-rise-requires c κs = search needs
@@ -83,9 +91,7 @@ returns-4 c =
     bad-devices _ _ (placed (r .before .before)) (rise r) (collections k) (failed (c .before .devices-ok .ensures) (c .if4 .taken))
 
 tables-apart-requires : tie.Need-tables-apart-requires
-tables-apart-requires c κs =
-    let s = entry4 c in
-    (s .pre .0, (s .pre .1, small c))
+tables-apart-requires c κs = (entry4 c .pre, sized c)
 
 returns-5 : tie.Need-returns-5
 returns-5 c =
@@ -97,7 +103,7 @@ returns-5 c =
 events-ok-requires : tie.Need-events-ok-requires
 events-ok-requires c κs =
     let d = c .before .before in
-    (entry4 d .pre .1, small d)
+    (sized d, devices-rise _ (rise (d .before .before .before .before)))
 
 returns-6 : tie.Need-returns-6
 returns-6 c =
@@ -112,6 +118,7 @@ pub keeps-map-rules-spec : {M : Type 1} → statement M
 keeps-map-rules-spec =
     tie.close
     (tie.spec
+    load-tables-requires
     is-empty-requires
     returns
     rows-rise-requires

@@ -1,39 +1,38 @@
 -- `mapcheck::rising_events` meets its contract. The loop's invariant: what is left of the rows rises where the whole does. Assumes nothing.
 use Prim.Native.Nat.{_-_}
 use native.Mathlib.Omega.{arith}
+use mathlib.Core.Path.{ap, _∙_}
 use borrow.Author.Needs.{needs}
 use Rattle.mapping.specs.Mapped.{eventKey, noEvent}
-use Rattle.mapping.proofs.Counts.{full-of}
+use Rattle.maplayout.specs.MapLayout.{decodeMap}
+use Rattle.maplayout.proofs.InPlace.{events-few}
 use Rattle.mapcheck.proofs.Loops.{Climbing, climb-start, climb-turn, climb-fall, climb-end}
 use Rattle.mapcheck.proofs.rising_events.Statement.{statement}
 use Rattle.mapcheck.proofs.rising_events.Tie as tie
 
 abbrev Inv-loop : tie.InvT-loop
-Inv-loop k n i₀ i = Climbing eventKey noEvent n (k .events) i
+Inv-loop s n i₀ i = Climbing eventKey noEvent n (decodeMap s .events) i
 
 abbrev μ-loop : tie.MeasureT-loop
-μ-loop k n i₀ i = n - i
+μ-loop s n i₀ i = n - i
+
+event-count-requires : tie.Need-event-count-requires Inv-loop μ-loop
+event-count-requires c κs = search needs
 
 loop-holds : tie.Need-loop-holds Inv-loop μ-loop
-loop-holds c = climb-start _ _ _ _ (omega (arith, c .pre, full-of (c .args .t1) _ (c .good .0 .1 .1) .events))
+loop-holds c = climb-start _ _ _ _ (c .event-count .ensures)
 
 add-loop : tie.Need-add-loop Inv-loop μ-loop
-add-loop c = search needs
+add-loop c = omega (arith, events-few _ (c .before .before .before .pre))
 
-mul-a : tie.Need-mul-a Inv-loop μ-loop
-mul-a c = search needs
+event-at-requires : tie.Need-event-at-requires Inv-loop μ-loop
+event-at-requires c κs = (c .before .before .before .before .pre, omega (arith, c .before .loop .inv))
 
-element-copy-out-a : tie.Need-element-copy-out-a Inv-loop μ-loop
-element-copy-out-a c = search needs
+add-event-at : tie.Need-add-event-at Inv-loop μ-loop
+add-event-at c = search needs
 
-add-b : tie.Need-add-b Inv-loop μ-loop
-add-b c = search needs
-
-mul-b : tie.Need-mul-b Inv-loop μ-loop
-mul-b c = search needs
-
-element-copy-out-b : tie.Need-element-copy-out-b Inv-loop μ-loop
-element-copy-out-b c = search needs
+event-at-requires-2 : tie.Need-event-at-requires-2 Inv-loop μ-loop
+event-at-requires-2 c κs = (c .before .before .before .before .before .pre, omega (arith, c .before .before .loop .inv))
 
 event-key-requires : tie.Need-event-key-requires Inv-loop μ-loop
 event-key-requires c κs = search needs
@@ -43,8 +42,10 @@ event-key-requires-2 c κs = search needs
 
 returns : tie.Need-returns Inv-loop μ-loop
 returns c =
-    let t = c .before .before .before .before .before in
-    climb-fall eventKey noEvent _ _ _ (t .before .loop .inv) (t .loop-test .taken) (rw (c .before .before .event-key .ensures, c .before .event-key2 .ensures) at (c .if1 .taken))
+    let r = c .before .before .before in
+    let t = r .before .before in
+    climb-fall eventKey noEvent _ _ _ (t .before .loop .inv) (t .loop-test .taken) (c .before .event-key2 .ensures ∙ ap eventKey (r .before .event-at .ensures))
+    (c .before .before .event-key .ensures ∙ ap eventKey (r .event-at2 .ensures)) (c .if1 .taken)
 
 add-i : tie.Need-add-i Inv-loop μ-loop
 add-i c = search needs
@@ -54,8 +55,10 @@ loop-less c = search needs
 
 loop-again : tie.Need-loop-again Inv-loop μ-loop
 loop-again c =
-    let t = c .before .before .before .before .before in
-    climb-turn eventKey noEvent _ _ _ (t .before .loop .inv) (t .loop-test .taken) (rw (c .before .before .event-key .ensures, c .before .event-key2 .ensures) at (c .if1 .left))
+    let r = c .before .before .before in
+    let t = r .before .before in
+    climb-turn eventKey noEvent _ _ _ (t .before .loop .inv) (t .loop-test .taken) (c .before .event-key2 .ensures ∙ ap eventKey (r .before .event-at .ensures))
+    (c .before .before .event-key .ensures ∙ ap eventKey (r .event-at2 .ensures)) (c .if1 .left)
 
 returns-2 : tie.Need-returns-2 Inv-loop μ-loop
 returns-2 c = climb-end eventKey noEvent _ _ _ (c .before .loop .inv) (c .loop-test .left)
@@ -66,13 +69,12 @@ rising-events-spec =
     (tie.spec
     Inv-loop
     μ-loop
+    event-count-requires
     loop-holds
     add-loop
-    mul-a
-    element-copy-out-a
-    add-b
-    mul-b
-    element-copy-out-b
+    event-at-requires
+    add-event-at
+    event-at-requires-2
     event-key-requires
     event-key-requires-2
     returns

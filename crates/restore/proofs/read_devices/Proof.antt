@@ -1,108 +1,111 @@
 -- `restore::read_devices` meets its contract. Assumes nothing.
 use Prim.Native.Nat.{_-_, _/_}
 use native.Mathlib.Omega.{arith}
+use mathlib.Core.Path.{_≡_, refl, _∙_}
 use mathlib.Core.Bool.{true}
 use lib.ListN.{length}
 use borrow.Author.Needs.{needs}
-use Rattle.guest.specs.Machine.{view}
-use Rattle.mapping.specs.Mapped.{rows}
 use Rattle.tables.specs.Bytes.{deviceSlots}
 use Rattle.tables.specs.Restored.{walk, visitDevice}
-use Rattle.restore.specs.Parts.{Begun}
-use Rattle.restore.proofs.Answers.{reads-as}
-use Rattle.restore.proofs.Walk.{Going, go-start, go-none, go-bad, go-last, go-less, go-fault, go-on}
-use Rattle.restore.proofs.Whole.{devices-walk, begun-on}
+use Rattle.restore.proofs.Walk.{Walks, walk-start, walk-none, walk-begun, walk-memory, walk-inside, walk-bad, walk-last, walk-fault, walk-on, walk-less}
+use Rattle.restore.proofs.Whole.{devices-walk}
 use Rattle.restore.proofs.read_devices.Statement.{statement}
 use Rattle.restore.proofs.read_devices.Tie as tie
 
 abbrev Inv-loop : tie.InvT-loop
-Inv-loop g mem t n next₀ at₀ next at =
-    (Begun next)
-    × (Going true t (visitDevice (view g) mem t) (walk (deviceSlots t) (visitDevice (view g) mem t) (rows next₀)) at (rows next))
+Inv-loop s₀ mem t n at₀ s at = (Walks true t (λ m. visitDevice m mem t) (λ m. walk (deviceSlots t) (visitDevice m mem t)) s₀ at s) × (length s ≡ length s₀)
 
 abbrev μ-loop : tie.MeasureT-loop
-μ-loop g mem t n next₀ at₀ next at = length t / 8 - at
+μ-loop s₀ mem t n at₀ s at = length t / 8 - at
 
 first-from-requires : tie.Need-first-from-requires Inv-loop μ-loop
 first-from-requires c κs = search needs
 
-accepted-requires : tie.Need-accepted-requires Inv-loop μ-loop
-accepted-requires c κs = search needs
-
 returns : tie.Need-returns Inv-loop μ-loop
 returns c =
-    let f = c .before .before in
-    let a = f .before .before .before .args in
-    reads-as (c .accepted .ensures)
-    (go-none true (a .t .now) (visitDevice (view (a .g)) (a .mem .now) (a .t .now)) _ _ (devices-walk _ _ _ _) _ (f .first-from .ensures) (c .before .if1 .taken))
+    let f = c .before in
+    let a = f .before .before .before .before .args in
+    walk-none true (a .t .now) (λ m. visitDevice m (a .mem .now) (a .t .now)) (λ m. walk (deviceSlots (a .t .now)) (visitDevice m (a .mem .now) (a .t .now)))
+    (λ m k. devices-walk m _ _ k) _ _ (f .first-from .ensures) (c .if1 .taken)
 
 loop-holds : tie.Need-loop-holds Inv-loop μ-loop
 loop-holds c =
     let f = c .before in
-    let s = f .before .before .before in
-    (s .pre .0 .begun, go-start _ _ _ _ _ (devices-walk _ _ _ _) _ (f .first-from .ensures) (c .if1 .left))
+    (walk-start _ _ _ _ (λ m k. devices-walk m _ _ k) _ _ (f .first-from .ensures) (c .if1 .left), refl)
 
 follow-requires : tie.Need-follow-requires Inv-loop μ-loop
-follow-requires c κs = c .loop .inv .1 .inside
+follow-requires c κs =
+    let a = c in
+    walk-inside _ _ _ _ _ _ _ (a .loop .inv .0) (a .before .before .before .before .before .before .pre .0)
 
 enum-told : tie.Need-enum-told Inv-loop μ-loop
 enum-told c = search needs
 
-refused-requires : tie.Need-refused-requires Inv-loop μ-loop
-refused-requires c κs = (c .before .before .before .loop .inv .0 .within, omega arith)
+same-length : tie.Need-same-length Inv-loop μ-loop
+same-length c = search needs
 
 returns-2 : tie.Need-returns-2 Inv-loop μ-loop
 returns-2 c =
-    let m = c .before in
-    let f = m .before .before in
-    reads-as (c .refused .ensures) (go-bad _ _ _ _ _ _ (f .before .loop .inv .1) _ (f .follow .ensures) (m .enum-told .given .1))
+    let f = c .before .before in
+    let a = f .before in
+    walk-bad _ _ _ _ _ _ _ (a .loop .inv .0) _ (f .follow .ensures) (c .enum-told .given .1)
 
 enum-told-2 : tie.Need-enum-told-2 Inv-loop μ-loop
 enum-told-2 c = search needs
 
 visit-device-requires : tie.Need-visit-device-requires Inv-loop μ-loop
 visit-device-requires c κs =
-    let l = c .before .before .before in
-    let s = l .before .before .before .before .before in
-    let h = l .loop .inv .1 .inside in
-    (record { guest = s .pre .0 .guest; begun = l .loop .inv .0; memory = s .pre .0 .memory }, h, omega (arith, s .pre .1))
+    let a = c .before .before .before .before in
+    let s = a .before .before .before .before .before .before in
+    let h = walk-inside _ _ _ _ _ _ _ (a .loop .inv .0) (s .pre .0) in
+    (walk-begun _ _ _ _ _ _ _ (a .loop .inv .0) (s .pre .0), walk-memory _ _ _ _ _ _ _ (a .loop .inv .0) (s .pre .0) _ (s .pre .1), h, omega (arith, s .pre .2))
+
+same-length-2 : tie.Need-same-length-2 Inv-loop μ-loop
+same-length-2 c = search needs
 
 returns-3 : tie.Need-returns-3 Inv-loop μ-loop
 returns-3 c =
-    let m = c .before in
+    let v = c .before .before in
+    let m = v .before .before in
     let f = m .before .before in
-    go-last _ _ _ _ _ _ (f .before .loop .inv .1) _ (f .follow .ensures) (m .enum-told2 .given .1) _ (c .visit-device .ensures)
+    let a = f .before in
+    walk-last _ _ _ _ _ _ _ (a .loop .inv .0) _ (f .follow .ensures) _ _ (v .visit-device .ensures) (m .enum-told2 .given .1)
 
 enum-known-j : tie.Need-enum-known-j Inv-loop μ-loop
 enum-known-j c = search needs
 
 visit-device-requires-2 : tie.Need-visit-device-requires-2 Inv-loop μ-loop
 visit-device-requires-2 c κs =
-    let l = c .before .before .before .before in
-    let s = l .before .before .before .before .before in
-    let h = l .loop .inv .1 .inside in
-    (record { guest = s .pre .0 .guest; begun = l .loop .inv .0; memory = s .pre .0 .memory }, h, omega (arith, s .pre .1))
+    let a = c .before .before .before .before .before in
+    let s = a .before .before .before .before .before .before in
+    let h = walk-inside _ _ _ _ _ _ _ (a .loop .inv .0) (s .pre .0) in
+    (walk-begun _ _ _ _ _ _ _ (a .loop .inv .0) (s .pre .0), walk-memory _ _ _ _ _ _ _ (a .loop .inv .0) (s .pre .0) _ (s .pre .1), h, omega (arith, s .pre .2))
+
+same-length-3 : tie.Need-same-length-3 Inv-loop μ-loop
+same-length-3 c = search needs
 
 returns-4 : tie.Need-returns-4 Inv-loop μ-loop
 returns-4 c =
-    let v = c .before .before in
-    let m = v .before .before in
+    let v = c .before .before .before in
+    let m = v .before .before .before in
     let f = m .before .before in
-    go-fault _ _ _ _ _ _ (f .before .loop .inv .1) _ (f .follow .ensures) _ (m .j .given .1) _ (v .visit-device2 .ensures) (c .if2 .taken)
+    let a = f .before in
+    walk-fault _ _ _ _ _ _ _ (a .loop .inv .0) _ (f .follow .ensures) _ _ (v .visit-device2 .ensures) _ (m .j .given .1) (c .if2 .taken)
 
 loop-less : tie.Need-loop-less Inv-loop μ-loop
 loop-less c =
-    let m = c .before .before .before .before .before in
+    let m = c .before .before .before .before .before .before in
     let f = m .before .before in
-    go-less _ _ _ _ _ _ (f .before .loop .inv .1) _ (f .follow .ensures) _ (m .j .given .1)
+    let a = f .before in
+    walk-less _ _ _ _ _ _ _ (a .loop .inv .0) _ (f .follow .ensures) (a .before .before .before .before .before .before .pre .0) _ (m .j .given .1)
 
 loop-again : tie.Need-loop-again Inv-loop μ-loop
 loop-again c =
     let v = c .before .before .before in
-    let m = v .before .before in
+    let m = v .before .before .before in
     let f = m .before .before in
-    (begun-on _ _ _ _ _ (f .before .loop .inv .0) _ (v .visit-device2 .ensures) (c .before .if2 .left),
-    go-on _ _ _ _ _ _ (f .before .loop .inv .1) _ (f .follow .ensures) _ (m .j .given .1) _ (v .visit-device2 .ensures) (c .before .if2 .left))
+    let a = f .before in
+    (walk-on _ _ _ _ _ _ _ (a .loop .inv .0) _ (f .follow .ensures) _ _ (v .visit-device2 .ensures) _ (m .j .given .1) (c .if2 .left), v .visit-device2 .kept .0 ∙ a .loop .inv .1)
 
 pub read-devices-spec : {M : Type 1} → statement M
 read-devices-spec =
@@ -111,18 +114,19 @@ read-devices-spec =
     Inv-loop
     μ-loop
     first-from-requires
-    accepted-requires
     returns
     loop-holds
     follow-requires
     enum-told
-    refused-requires
+    same-length
     returns-2
     enum-told-2
     visit-device-requires
+    same-length-2
     returns-3
     enum-known-j
     visit-device-requires-2
+    same-length-3
     returns-4
     loop-less
     loop-again)

@@ -1,102 +1,109 @@
 -- `restore::read_events` meets its contract. Assumes nothing.
 use Prim.Native.Nat.{_-_, _/_}
 use native.Mathlib.Omega.{arith}
+use mathlib.Core.Path.{_≡_, refl, _∙_}
 use mathlib.Core.Bool.{false}
 use lib.ListN.{length}
 use borrow.Author.Needs.{needs}
-use Rattle.mapping.specs.Mapped.{Within, rows}
 use Rattle.tables.specs.Restored.{visitEvent, readEvents}
-use Rattle.restore.proofs.Answers.{reads-as}
-use Rattle.restore.proofs.Walk.{Going, go-start, go-none, go-bad, go-last, go-less, go-fault, go-on}
+use Rattle.restore.proofs.Walk.{Walks, walk-start, walk-none, walk-begun, walk-inside, walk-bad, walk-last, walk-fault, walk-on, walk-less}
 use Rattle.restore.proofs.Events.{events-walk}
 use Rattle.restore.proofs.read_events.Statement.{statement}
 use Rattle.restore.proofs.read_events.Tie as tie
 
 abbrev Inv-loop : tie.InvT-loop
-Inv-loop t id n next₀ at₀ next at =
-    (Within next) × (Going false t (visitEvent t id) (readEvents t id (rows next₀)) at (rows next))
+Inv-loop s₀ t id n at₀ s at = (Walks false t (λ m. visitEvent t id) (λ m. readEvents t id) s₀ at s) × (length s ≡ length s₀)
 
 abbrev μ-loop : tie.MeasureT-loop
-μ-loop t id n next₀ at₀ next at = length t / 8 - at
+μ-loop s₀ t id n at₀ s at = length t / 8 - at
 
 first-from-requires : tie.Need-first-from-requires Inv-loop μ-loop
 first-from-requires c κs = search needs
 
-accepted-requires : tie.Need-accepted-requires Inv-loop μ-loop
-accepted-requires c κs = search needs
-
 returns : tie.Need-returns Inv-loop μ-loop
 returns c =
-    let f = c .before .before in
-    let a = f .before .before .args in
-    reads-as (c .accepted .ensures)
-    (go-none false (a .t .now) (visitEvent (a .t .now) (a .id)) _ _ (events-walk _ _ _) _ (f .first-from .ensures) (c .before .if1 .taken))
+    let f = c .before in
+    let a = f .before .before .before .args in
+    walk-none false (a .t .now) (λ m. visitEvent (a .t .now) (a .id)) (λ m. readEvents (a .t .now) (a .id)) (λ m k. events-walk _ _ k) _ _ (f .first-from .ensures) (c .if1 .taken)
 
 loop-holds : tie.Need-loop-holds Inv-loop μ-loop
 loop-holds c =
     let f = c .before in
-    let s = f .before .before in
-    (s .pre .1, go-start _ _ _ _ _ (events-walk _ _ _) _ (f .first-from .ensures) (c .if1 .left))
+    (walk-start _ _ _ _ (λ m k. events-walk _ _ k) _ _ (f .first-from .ensures) (c .if1 .left), refl)
 
 follow-requires : tie.Need-follow-requires Inv-loop μ-loop
-follow-requires c κs = c .loop .inv .1 .inside
+follow-requires c κs =
+    let a = c in
+    walk-inside _ _ _ _ _ _ _ (a .loop .inv .0) (a .before .before .before .before .before .pre .0)
 
 enum-told : tie.Need-enum-told Inv-loop μ-loop
 enum-told c = search needs
 
-refused-requires : tie.Need-refused-requires Inv-loop μ-loop
-refused-requires c κs = (c .before .before .before .loop .inv .0, omega arith)
+same-length : tie.Need-same-length Inv-loop μ-loop
+same-length c = search needs
 
 returns-2 : tie.Need-returns-2 Inv-loop μ-loop
 returns-2 c =
-    let m = c .before in
-    let f = m .before .before in
-    reads-as (c .refused .ensures) (go-bad _ _ _ _ _ _ (f .before .loop .inv .1) _ (f .follow .ensures) (m .enum-told .given .1))
+    let f = c .before .before in
+    let a = f .before in
+    walk-bad _ _ _ _ _ _ _ (a .loop .inv .0) _ (f .follow .ensures) (c .enum-told .given .1)
 
 enum-told-2 : tie.Need-enum-told-2 Inv-loop μ-loop
 enum-told-2 c = search needs
 
 visit-event-requires : tie.Need-visit-event-requires Inv-loop μ-loop
 visit-event-requires c κs =
-    let l = c .before .before .before in
-    let h = l .loop .inv .1 .inside in
-    (h, omega (arith, l .before .before .before .before .pre .0), l .loop .inv .0)
+    let a = c .before .before .before .before in
+    let s = a .before .before .before .before .before in
+    let h = walk-inside _ _ _ _ _ _ _ (a .loop .inv .0) (s .pre .0) in
+    (walk-begun _ _ _ _ _ _ _ (a .loop .inv .0) (s .pre .0), h, omega (arith, s .pre .1))
+
+same-length-2 : tie.Need-same-length-2 Inv-loop μ-loop
+same-length-2 c = search needs
 
 returns-3 : tie.Need-returns-3 Inv-loop μ-loop
 returns-3 c =
-    let m = c .before in
+    let v = c .before .before in
+    let m = v .before .before in
     let f = m .before .before in
-    go-last _ _ _ _ _ _ (f .before .loop .inv .1) _ (f .follow .ensures) (m .enum-told2 .given .1) _ (c .visit-event .ensures)
+    let a = f .before in
+    walk-last _ _ _ _ _ _ _ (a .loop .inv .0) _ (f .follow .ensures) _ _ (v .visit-event .ensures) (m .enum-told2 .given .1)
 
 enum-known-j : tie.Need-enum-known-j Inv-loop μ-loop
 enum-known-j c = search needs
 
 visit-event-requires-2 : tie.Need-visit-event-requires-2 Inv-loop μ-loop
 visit-event-requires-2 c κs =
-    let l = c .before .before .before .before in
-    let h = l .loop .inv .1 .inside in
-    (h, omega (arith, l .before .before .before .before .pre .0), l .loop .inv .0)
+    let a = c .before .before .before .before .before in
+    let s = a .before .before .before .before .before in
+    let h = walk-inside _ _ _ _ _ _ _ (a .loop .inv .0) (s .pre .0) in
+    (walk-begun _ _ _ _ _ _ _ (a .loop .inv .0) (s .pre .0), h, omega (arith, s .pre .1))
+
+same-length-3 : tie.Need-same-length-3 Inv-loop μ-loop
+same-length-3 c = search needs
 
 returns-4 : tie.Need-returns-4 Inv-loop μ-loop
 returns-4 c =
-    let v = c .before .before in
-    let m = v .before .before in
+    let v = c .before .before .before in
+    let m = v .before .before .before in
     let f = m .before .before in
-    go-fault _ _ _ _ _ _ (f .before .loop .inv .1) _ (f .follow .ensures) _ (m .j .given .1) _ (v .visit-event2 .ensures) (c .if2 .taken)
+    let a = f .before in
+    walk-fault _ _ _ _ _ _ _ (a .loop .inv .0) _ (f .follow .ensures) _ _ (v .visit-event2 .ensures) _ (m .j .given .1) (c .if2 .taken)
 
 loop-less : tie.Need-loop-less Inv-loop μ-loop
 loop-less c =
-    let m = c .before .before .before .before .before in
+    let m = c .before .before .before .before .before .before in
     let f = m .before .before in
-    go-less _ _ _ _ _ _ (f .before .loop .inv .1) _ (f .follow .ensures) _ (m .j .given .1)
+    let a = f .before in
+    walk-less _ _ _ _ _ _ _ (a .loop .inv .0) _ (f .follow .ensures) (a .before .before .before .before .before .pre .0) _ (m .j .given .1)
 
 loop-again : tie.Need-loop-again Inv-loop μ-loop
 loop-again c =
     let v = c .before .before .before in
-    let m = v .before .before in
+    let m = v .before .before .before in
     let f = m .before .before in
-    (v .visit-event2 .ensures .within,
-    go-on _ _ _ _ _ _ (f .before .loop .inv .1) _ (f .follow .ensures) _ (m .j .given .1) _ (v .visit-event2 .ensures) (c .before .if2 .left))
+    let a = f .before in
+    (walk-on _ _ _ _ _ _ _ (a .loop .inv .0) _ (f .follow .ensures) _ _ (v .visit-event2 .ensures) _ (m .j .given .1) (c .if2 .left), v .visit-event2 .kept .0 ∙ a .loop .inv .1)
 
 pub read-events-spec : {M : Type 1} → statement M
 read-events-spec =
@@ -105,18 +112,19 @@ read-events-spec =
     Inv-loop
     μ-loop
     first-from-requires
-    accepted-requires
     returns
     loop-holds
     follow-requires
     enum-told
-    refused-requires
+    same-length
     returns-2
     enum-told-2
     visit-event-requires
+    same-length-2
     returns-3
     enum-known-j
     visit-event-requires-2
+    same-length-3
     returns-4
     loop-less
     loop-again)

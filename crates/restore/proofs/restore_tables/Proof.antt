@@ -1,84 +1,121 @@
 -- `restore::restore_tables` meets its contract. Assumes nothing.
 use borrow.Author.Needs.{needs}
-use Rattle.guest.specs.Machine.{view}
-use Rattle.rules.proofs.Facts.{sound-devices, sound-collections}
-use Rattle.restore.proofs.Whole.{devices-inside, collections-inside, devices-few, restore-fault, restore-begun, restore-rest}
+use Rattle.restore.proofs.Searches.{device-pages, collection-pages}
+use Rattle.restore.proofs.Whole.{
+  collections-inside,
+  collections-bytes,
+  devices-inside,
+  devices-bytes,
+  devices-few,
+  restore-begun,
+  restore-fault,
+  restore-read,
+  restore-memory,
+  restore-rest,
+}
 use Rattle.restore.proofs.restore_tables.Statement.{statement}
 use Rattle.restore.proofs.restore_tables.Tie as tie
 
+load-memory-requires : tie.Need-load-memory-requires
+load-memory-requires c κs = search needs
+
+load-tables-requires : tie.Need-load-tables-requires
+load-tables-requires c κs = search needs
+
+store-empty-requires : tie.Need-store-empty-requires
+store-empty-requires c κs = search needs
+
 table-area-requires : tie.Need-table-area-requires
-table-area-requires c κs =
-    let s = c .before in
-    sound-collections (view (s .args .g)) (s .pre .0 .rules) .most
+table-area-requires c κs = collection-pages _ _ (c .before .before .before .before .load-tables .ensures) (c .before .before .before .before .before .before .before .before .before .before .pre .rules)
 
 area-bytes-requires : tie.Need-area-bytes-requires
 area-bytes-requires c κs =
-    let s = c .before .before in
-    (collections-inside (view (s .args .g)) (s .pre .0 .rules) (s .pre .1) _ (c .table-area .ensures), s .pre .2)
-
-new-requires : tie.Need-new-requires
-new-requires c κs = search needs
+    let t = c .before .before .before .before .before in
+    let m = t .before .before in
+    let s = m .before .before .before .before in
+    collections-inside _ (s .args .mem .now) (s .pre) _ (m .load-memory .ensures) _ (t .load-tables .ensures) _ (c .table-area .ensures)
 
 read-collections-requires : tie.Need-read-collections-requires
 read-collections-requires c κs =
-    let s = c .before .before .before .before in
-    (s .pre .0 .held, c .new .ensures .within)
+    let s = c .before .before .before .before .before .before .before .before .before .before .before .before .before in
+    restore-begun _ (s .args .mem .now) (s .pre) _ (c .before .before .before .before .before .store-empty .ensures)
+
+same-length : tie.Need-same-length
+same-length c = search needs
 
 returns : tie.Need-returns
 returns c =
-    let r = c .before .before in
-    let k = r .before in
-    let b = k .before in
-    let s = b .before .before .before in
-    restore-fault (view (s .args .g)) _ _ (b .before .table-area .ensures) _ (b .area-bytes .ensures) _ (k .new .ensures .is) _ (r .read-collections .ensures) (c .if1 .taken)
+    let r = c .before .before .before in
+    let b = r .before .before in
+    let a = b .before in
+    let n = a .before .before .before in
+    let t = n .before .before in
+    let m = t .before .before in
+    let s = m .before .before .before .before in
+    let q = collections-bytes _ (s .args .mem .now) (s .pre) _ (m .load-memory .ensures) _ (t .load-tables .ensures) _ (a .table-area .ensures) _ (b .area-bytes .ensures) in
+    restore-fault _ (s .args .mem .now) (s .pre) _ (n .store-empty .ensures) _ q _ _ (r .read-collections .ensures) (c .if1 .taken)
 
 table-area-requires-2 : tie.Need-table-area-requires-2
-table-area-requires-2 c κs =
-    let s = c .before .before .before .before .before .before .before in
-    sound-devices (view (s .args .g)) (s .pre .0 .rules) .most
+table-area-requires-2 c κs = device-pages _ _ (c .before .before .before .before .before .before .before .before .before .before .before .load-tables .ensures) (c .before .before .before .before .before .before .before .before .before .before .before .before .before .before .before .before .before .pre .rules)
 
 area-bytes-requires-2 : tie.Need-area-bytes-requires-2
 area-bytes-requires-2 c κs =
-    let s = c .before .before .before .before .before .before .before .before in
-    (devices-inside (view (s .args .g)) (s .pre .0 .rules) (s .pre .1) _ (c .table-area2 .ensures), s .pre .2)
+    let t = c .before .before .before .before .before .before .before .before .before .before .before .before in
+    let m = t .before .before in
+    let s = m .before .before .before .before in
+    devices-inside _ (s .args .mem .now) (s .pre) _ (m .load-memory .ensures) _ (t .load-tables .ensures) _ (c .table-area2 .ensures)
 
 read-devices-requires : tie.Need-read-devices-requires
 read-devices-requires c κs =
-    let a = c .before in
-    let l = a .before in
-    let r = l .before .before in
-    let k = r .before in
-    let b = k .before in
-    let s = b .before .before .before in
-    let m = view (s .args .g) in
-    (record {
-      guest = s .pre .0;
-      begun = restore-begun m _ _ (b .before .table-area .ensures) _ (b .area-bytes .ensures) _ (k .new .ensures .is) _ (r .read-collections .ensures) (l .if1 .left);
-      memory = s .pre .2;
-    }, devices-few m (s .pre .0 .rules) (s .pre .1) _ _ (a .table-area2 .ensures) _ (c .area-bytes2 .ensures))
+    let e = c .before in
+    let d = e .before in
+    let l = d .before in
+    let r = l .before .before .before in
+    let b = r .before .before in
+    let a = b .before in
+    let n = a .before .before .before in
+    let t = n .before .before in
+    let m = t .before .before in
+    let s = m .before .before .before .before in
+    let q = collections-bytes _ (s .args .mem .now) (s .pre) _ (m .load-memory .ensures) _ (t .load-tables .ensures) _ (a .table-area .ensures) _ (b .area-bytes .ensures) in
+    (restore-read _ (s .args .mem .now) (s .pre) _ (n .store-empty .ensures) _ q _ _ (r .read-collections .ensures) (l .if1 .left),
+    restore-memory _ (s .args .mem .now) (s .pre) _ (n .store-empty .ensures) _ q _ _ (r .read-collections .ensures) (l .if1 .left),
+    devices-few _ (s .args .mem .now) (s .pre) _ (m .load-memory .ensures) _ (t .load-tables .ensures) _ (d .table-area2 .ensures) _ (e .area-bytes2 .ensures))
+
+same-length-2 : tie.Need-same-length-2
+same-length-2 c = search needs
 
 returns-2 : tie.Need-returns-2
 returns-2 c =
-    let d = c .before in
-    let a = d .before in
-    let l = a .before in
-    let r = l .before .before in
-    let k = r .before in
-    let b = k .before in
-    let s = b .before .before .before in
-    restore-rest (view (s .args .g)) _ _ (b .before .table-area .ensures) _ (b .area-bytes .ensures) _ (k .new .ensures .is) _ (r .read-collections .ensures) (l .if1 .left)
-    _ (a .table-area2 .ensures) _ (d .area-bytes2 .ensures) _ (c .read-devices .ensures)
+    let w = c .before .before in
+    let e = w .before .before in
+    let d = e .before in
+    let l = d .before in
+    let r = l .before .before .before in
+    let b = r .before .before in
+    let a = b .before in
+    let n = a .before .before .before in
+    let t = n .before .before in
+    let m = t .before .before in
+    let s = m .before .before .before .before in
+    let q = collections-bytes _ (s .args .mem .now) (s .pre) _ (m .load-memory .ensures) _ (t .load-tables .ensures) _ (a .table-area .ensures) _ (b .area-bytes .ensures) in
+    restore-rest _ (s .args .mem .now) (s .pre) _ (n .store-empty .ensures) _ q _ _ (r .read-collections .ensures) (l .if1 .left)
+    _ (devices-bytes _ (s .args .mem .now) (s .pre) _ (m .load-memory .ensures) _ (t .load-tables .ensures) _ (d .table-area2 .ensures) _ (e .area-bytes2 .ensures)) _ _ (w .read-devices .ensures)
 
 pub restore-tables-spec : {M : Type 1} → statement M
 restore-tables-spec =
     tie.close
     (tie.spec
+    load-memory-requires
+    load-tables-requires
+    store-empty-requires
     table-area-requires
     area-bytes-requires
-    new-requires
     read-collections-requires
+    same-length
     returns
     table-area-requires-2
     area-bytes-requires-2
     read-devices-requires
+    same-length-2
     returns-2)

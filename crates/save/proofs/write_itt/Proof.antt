@@ -13,7 +13,7 @@ add-first-event c = search needs
 first-event-requires-2 : tie.Need-first-event-requires-2
 first-event-requires-2 c κs =
     let f = c .before in
-    (f .before .before .pre .within, first-before _ _ _ (f .first-event .ensures))
+    (f .before .before .before .pre .0, first-before _ _ _ (f .first-event .ensures))
 
 sub-at : tie.Need-sub-at
 sub-at c = search needs
@@ -25,8 +25,11 @@ write-events-requires : tie.Need-write-events-requires
 write-events-requires c κs =
     let l = c .before .before .before in
     let f = l .before .before in
-    let s = f .before .before in
-    events-ready _ _ _ _ _ (s .pre .events) (f .first-event .ensures) (l .first-event2 .ensures) (c .itt-entries .ensures) _ _ (s .pre .within) (s .pre .itt)
+    let s = f .before .before .before in
+    (
+      s .pre .0,
+      events-ready _ _ _ _ _ (s .pre .1 .events) (f .first-event .ensures) (l .first-event2 .ensures) (c .itt-entries .ensures) _ _ (s .pre .1 .itt),
+    )
 
 same-length : tie.Need-same-length
 same-length c = search needs
@@ -36,9 +39,9 @@ returns c =
     let w = c .before .before in
     let l = w .before .before .before .before in
     let f = l .before .before in
-    let s = f .before .before in
+    let s = f .before .before .before in
     (
-      itt-saved (s .args .k) (s .args .d) _ _ _ (s .pre .events) (f .first-event .ensures) (l .first-event2 .ensures) (w .before .itt-entries .ensures) _ _ _ (w .write-events .ensures),
+      itt-saved _ (s .args .d) _ _ _ (s .pre .1 .events) (f .first-event .ensures) (l .first-event2 .ensures) (w .before .itt-entries .ensures) _ _ _ (w .write-events .ensures),
       l .first-event2 .ensures,
     )
 

@@ -1,0 +1,38 @@
+-- What document 01 says of the text beyond its lines. Assumes nothing.
+use Prim.Native.Nat.{ℕ, _≤_, _<_}
+use native.Mathlib.Omega.{arith}
+use mathlib.Core.Path.{_≡_, refl, sym, _∙_}
+use mathlib.Core.Bool.{true}
+use mathlib.Core.List.{List}
+use lib.ListN.{length, take}
+use lib.Seq.{length-take-le}
+use lib.Dec.{leb}
+use borrow.Author.Tests.{le-leb, lt-leb}
+use Rattle.areas.proofs.Tests.{and-left, and-right}
+use Rattle.mapping.specs.Mapped.{Mapped, rising, collectionKey, deviceKey, eventKey}
+use Rattle.mapping.specs.MapRules.{mappingOk}
+use Rattle.tables.specs.Restored.{found, restored}
+use Rattle.described.proofs.Exact.{accepted-described}
+use Rattle.show.specs.Shown.{isImage, guestOf, refusal, shown}
+use Rattle.show.proofs.Ready.{ready, image-says}
+use Rattle.show.proofs.Whole.{shown-no-image}
+
+-- an image above 65,536 bytes is refused, so that no byte after the 65,537th matters
+shown-long : (image : List ℕ) → 65536 < length image → shown image ≡ refusal 14
+unfolding isImage
+shown-long image h = sym (shown-no-image image (rw (le-leb 8192 (length image) (omega arith), lt-leb (length image) 65536 h)))
+
+pub shown-cut : (image : List ℕ) → 65537 ≤ length image → shown (take 65537 image) ≡ shown image
+shown-cut image h = shown-long (take 65537 image) (omega (arith, length-take-le 65537 image h)) ∙ sym (shown-long image h)
+
+-- "each rising"
+module _ (image : List ℕ) (e : isImage (length image) ≡ true) (k : Mapped) (r : restored (guestOf (length image)) image ≡ found k) where
+  pub rows-rise : (rising collectionKey (k .collections) ≡ true) × (rising deviceKey (k .devices) ≡ true) × (rising eventKey (k .events) ≡ true)
+  unfolding mappingOk guestOf
+  rows-rise =
+      let o = accepted-described (guestOf (length image)) image (ready (length image) (image-says (length image) e)) refl refl k r .allowed in
+      let a = and-right (leb (length (k .collections)) 16) _ o in
+      let b = and-right (leb (length (k .devices)) 32) _ a in
+      let c = and-right (leb (length (k .events)) 1024) _ b in
+      let d = and-right (rising collectionKey (k .collections)) _ c in
+      (and-left _ _ c, and-left _ _ d, and-left _ _ (and-right (rising deviceKey (k .devices)) _ d))

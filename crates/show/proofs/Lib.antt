@@ -1,0 +1,5 @@
+pub mod Ready
+pub mod Stored
+pub mod Whole
+pub mod Reading
+pub mod Claims

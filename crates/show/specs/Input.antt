@@ -1,0 +1,11 @@
+-- What reading the image comes to.
+use mathlib.Core.List.{List}
+use Prim.Native.Nat.{ℕ}
+use Rattle.io.specs.Counts.{Counts}
+use Rattle.show.specs.declared.Input.{Input}
+use Rattle.show.specs.declared.Input.the-variants.{Bytes, Unread}
+
+-- so many bytes at the start of the buffer
+abbrev pub Fills : Input → List ℕ → Type 0
+Fills (Bytes n) l = Counts n l
+Fills Unread l = Unit {0}
