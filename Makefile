@@ -1,8 +1,9 @@
-# make: proves everything and builds the archive. make check: the whole gate.
-.PHONY: all check faults clean
+# make: proves everything, builds the archive and the showing program, and moves a guest in the demo. make check: the whole gate.
+.PHONY: all check faults header demo arm bench show audit clean
 all:
 	rt check
 	rt staticlib ritikancha
+	scripts/demo
 
 check:
 	@scripts/check
@@ -11,6 +12,48 @@ check:
 faults:
 	rt staticlib ritikancha
 	scripts/second faults
+
+# the C header against the archive and the source
+header: target/staticlib/libritikancha.a
+	scripts/header
+
+# a guest moves from one box to another: target/demo/migrate
+demo: target/staticlib/libritikancha.a
+	scripts/demo
+
+# target/arm/libritikancha.a, and the demo and the second program's sequences run on it under qemu
+arm:
+	scripts/arm
+
+target/staticlib/libritikancha.a: crates.txt $(shell find crates -name '*.rt' -o -name '*.antt')
+	rt staticlib ritikancha
+
+# the showing program held against the second program's, image by image
+show:
+	rt check show
+	rt staticlib ritikancha
+	scripts/second build
+	scripts/show
+
+# what the proofs rest on, against docs/audit.txt; after a check
+audit:
+	scripts/audit
+
+# the library beside plain C that keeps the same rules: times, and the most stack that a call uses
+BENCH_CFLAGS = -std=c11 -O2 -Wall -Wextra -Wpedantic -Werror -Iinclude
+BENCH_OBJECTS = $(patsubst bench/%.c,target/bench/%.o,$(wildcard bench/*.c))
+
+bench:
+	rt staticlib ritikancha
+	@$(MAKE) --no-print-directory target/bench/bench
+	@target/bench/bench
+
+target/bench/bench: $(BENCH_OBJECTS) target/staticlib/libritikancha.a
+	gcc -o $@ $^
+
+target/bench/%.o: bench/%.c $(wildcard bench/*.h) include/ritikancha.h
+	@mkdir -p target/bench
+	gcc $(BENCH_CFLAGS) -c -o $@ $<
 
 clean:
 	rm -rf target

@@ -8,6 +8,12 @@ impl Rng {
         Rng(seed ^ 0x5bf0_3635_9e37_79b9)
     }
 
+    /// What the next numbers come from: a trace tells it in the place of the bytes that are filled with them.
+    #[cfg(feature = "its")]
+    pub fn inside(&self) -> u64 {
+        self.0
+    }
+
     pub fn next(&mut self) -> u64 {
         self.0 = self.0.wrapping_add(0x9e37_79b9_7f4a_7c15);
         let mut z = self.0;

@@ -4,6 +4,7 @@
 use crate::call::{Call, REFUSALS};
 use crate::ffi;
 use crate::model::Model;
+use crate::random;
 
 pub trait Side {
     /// Makes the call; complaints about broken promises are added to the list.
@@ -92,6 +93,27 @@ impl Side for Library {
         }
         lent.copy_from_slice(value.content());
         answer
+    }
+}
+
+/// Both at once: answers what they agree on. A difference is a complaint.
+pub struct Both {
+    pub library: Library,
+    pub model: Model,
+}
+
+impl Side for Both {
+    fn call(&mut self, call: &Call, lent: &mut [u8], complaints: &mut Vec<String>) -> i64 {
+        match random::compare(&mut self.model, &mut self.library, call, lent.to_vec()) {
+            Ok((answer, after)) => {
+                lent.copy_from_slice(&after);
+                answer
+            }
+            Err(note) => {
+                complaints.push(note);
+                0
+            }
+        }
     }
 }
 

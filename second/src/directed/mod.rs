@@ -15,7 +15,7 @@ mod save;
 
 use crate::model::Model;
 use crate::report::{Kind, Report};
-use crate::sides::{Library, Side};
+use crate::sides::{Both, Library, Side};
 use case::Case;
 
 type Row = (&'static str, fn(&mut Case));
@@ -39,6 +39,15 @@ pub fn run(report: &mut Report) {
     for (name, body) in all() {
         run_one(&mut Library::new(&vec![0x5a; Library::len()]), Kind::DirectedLibrary, name, body, report);
         run_one(&mut Model::default(), Kind::DirectedModel, name, body, report);
+    }
+}
+
+/// The cases once more, on the library and the model at once: for a trace.
+pub fn run_both(report: &mut Report) {
+    for (name, body) in all() {
+        let library = Library::new(&vec![0x5a; Library::len()]);
+        let mut both = Both { library, model: Model::default() };
+        run_one(&mut both, Kind::DirectedLibrary, name, body, report);
     }
 }
 

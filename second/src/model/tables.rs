@@ -21,17 +21,17 @@ pub fn take(entry: u64, high: u32, low: u32) -> u64 {
 }
 
 /// Device: V 63, next [62:49], ITT address bits [51:8] in [48:5], bits - 1 in [4:0].
-fn device_entry(device: &Device, next: u64) -> u64 {
+pub fn device_entry(device: &Device, next: u64) -> u64 {
     put(1, 63, 63) | put(next, 62, 49) | put(device.itt >> 8, 48, 5) | put(device.bits - 1, 4, 0)
 }
 
 /// Collection: V 63, zero [62:52], pe [51:16], ICID [15:0].
-fn collection_entry(icid: u64, pe: u64) -> u64 {
+pub fn collection_entry(icid: u64, pe: u64) -> u64 {
     put(1, 63, 63) | put(pe, 51, 16) | put(icid, 15, 0)
 }
 
 /// Event: next [63:48], LPI [47:16], ICID [15:0].
-fn event_entry(event: &Event, next: u64) -> u64 {
+pub fn event_entry(event: &Event, next: u64) -> u64 {
     put(next, 63, 48) | put(event.lpi, 47, 16) | put(event.icid, 15, 0)
 }
 

@@ -5,6 +5,7 @@ use super::calls;
 use super::pair::{probe, Pair};
 use crate::call::{Call, ITS_STEPS};
 use crate::sides::{Library, Side};
+use crate::trace;
 
 pub fn damaged(pair: &mut Pair) {
     if !pair.stands() {
@@ -82,6 +83,8 @@ fn all_refused(pair: &mut Pair, bytes: &[u8]) -> Result<(), String> {
     for (call, mut lent) in list {
         let mut library = Library::new(bytes);
         let mut complaints = Vec::new();
+        trace::asked(bytes, &call, &lent);
+        trace::expected(-22, &lent, bytes);
         let answer = library.call(&call, &mut lent, &mut complaints);
         if answer != -22 {
             return Err(format!("start is -22, but {call:x?} answers {answer}"));
@@ -97,7 +100,10 @@ fn all_refused(pair: &mut Pair, bytes: &[u8]) -> Result<(), String> {
 fn set_up_heals(pair: &mut Pair, bytes: &[u8]) -> Result<(), String> {
     let mut library = Library::new(bytes);
     let mut complaints = Vec::new();
-    let answer = library.call(&calls::good_setup(pair), &mut [], &mut complaints);
+    let setup = calls::good_setup(pair);
+    trace::asked(bytes, &setup, &[]);
+    let answer = library.call(&setup, &mut [], &mut complaints);
+    trace::expected(0, &[], library.state.content());
     if answer != 0 {
         return Err(format!("start is -22, and set-up answers {answer}"));
     }

@@ -6,6 +6,7 @@ use super::{calls, pick};
 use crate::call::{Call, Device};
 use crate::model::guest::Area;
 use crate::model::its::{DEVICE_LIMIT, EVENT_LIMIT};
+use crate::trace;
 
 /// Memory above this is not lent: such guests see wrong lengths only.
 pub const LENT_LIMIT: u64 = 4 << 20;
@@ -47,7 +48,11 @@ fn fresh_memory(pair: &mut Pair) {
     match pair.rng.below(3) {
         0 => {}
         1 => memory.fill(0xff),
-        _ => pair.rng.fill(memory),
+        _ => {
+            let generator = pair.rng.inside();
+            pair.rng.fill(memory);
+            trace::filled(generator, memory);
+        }
     }
 }
 

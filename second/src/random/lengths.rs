@@ -4,6 +4,7 @@ use super::calls;
 use super::pair::Pair;
 use crate::call::Call;
 use crate::sides::{Library, Side};
+use crate::trace;
 
 pub fn wrong_length(pair: &mut Pair) {
     let right = Library::len();
@@ -43,6 +44,8 @@ fn refused(pair: &Pair, length: usize, call: &Call, mut lent: Vec<u8>) -> Result
     bytes.resize(length, 0x33);
     let mut library = Library::new(&bytes);
     let mut complaints = Vec::new();
+    trace::asked(&bytes, call, &lent);
+    trace::expected(-14, &lent, &bytes);
     let answer = library.call(call, &mut lent, &mut complaints);
     if answer != -14 {
         return Err(format!("answered {answer}, a wrong length is -14"));

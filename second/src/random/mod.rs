@@ -15,6 +15,7 @@ mod pick;
 mod plan;
 
 use crate::report::{Kind, Report};
+pub use pair::compare;
 use pair::Pair;
 
 /// The default number of calls in sequences.

@@ -4,6 +4,7 @@ use crate::call::{Call, ITS_STEPS};
 use crate::model::{Guest, Model};
 use crate::rng::Rng;
 use crate::sides::{Library, Side};
+use crate::trace;
 
 pub struct Pair {
     pub rng: Rng,
@@ -117,6 +118,7 @@ pub fn probe(state: &[u8]) -> i64 {
 
 /// One call on both; the answer and the lent bytes after it, or what differs.
 pub fn compare(model: &mut Model, library: &mut Library, call: &Call, lent: Vec<u8>) -> Result<(i64, Vec<u8>), String> {
+    trace::asked(library.state.content(), call, &lent);
     let (mut ours, mut theirs) = (lent.clone(), lent);
     let mut complaints = Vec::new();
     let want = Side::call(model, call, &mut ours, &mut complaints);
@@ -133,6 +135,7 @@ pub fn compare(model: &mut Model, library: &mut Library, call: &Call, lent: Vec<
     if ours != theirs {
         return Err(format!("{call:x?}: lent bytes after it: {}", first_difference(&theirs, &ours)));
     }
+    trace::expected(want, &ours, library.state.content());
     Ok((answer, theirs))
 }
 

@@ -1,0 +1,16 @@
+/* The most stack that a call uses, measured on a painted stack of its own. */
+#ifndef STACK_H
+#define STACK_H
+
+#include <stddef.h>
+
+struct depth {
+    const char *call;
+    size_t bytes;
+};
+
+/* the deepest of all calls of the library, and of the plain C ones */
+struct depth library_depth(void);
+struct depth plain_depth(void);
+
+#endif

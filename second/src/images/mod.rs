@@ -1,0 +1,134 @@
+//! Images for the showing program, always the same, named by what they are. Beside each stands what the text says of it.
+//!
+//! A device table of one page has 512 entries and an ITT inside 65,536 bytes at most 4,096, so no chain here can be one
+//! that the caps shorten: a next of 16,383 or 65,535 always leaves its table. What can be reached stands in `devices`
+//! and `events`: those values as damage, and the largest distances that fit (511 and 4,095).
+
+mod collections;
+mod damage;
+mod devices;
+mod events;
+mod image;
+mod lengths;
+mod order;
+mod places;
+mod random;
+
+use crate::show;
+use image::Image;
+use std::fs;
+use std::io::{Error, Result, Write};
+use std::path::Path;
+
+/// What the text says of an image.
+enum Want {
+    /// How many collections, devices and events are shown.
+    Counts([usize; 3]),
+    Refused(i64),
+    /// All that is written.
+    Whole(String),
+    /// Damage at random: the text decides, but nobody wrote its answer out.
+    Open,
+}
+
+struct Row {
+    kind: &'static str,
+    name: String,
+    bytes: Vec<u8>,
+    want: Want,
+}
+
+/// The images in the order of their making, and the kind that is being added to.
+#[derive(Default)]
+struct Set {
+    kind: &'static str,
+    rows: Vec<Row>,
+}
+
+impl Set {
+    fn begin(&mut self, kind: &'static str) {
+        self.kind = kind;
+    }
+
+    fn add(&mut self, name: &str, image: Image, want: Want) {
+        self.rows.push(Row { kind: self.kind, name: name.into(), bytes: image.bytes, want });
+    }
+
+    fn shown(&mut self, name: &str, image: Image, counts: [usize; 3]) {
+        self.add(name, image, Want::Counts(counts));
+    }
+
+    fn refused(&mut self, name: &str, image: Image, number: i64) {
+        self.add(name, image, Want::Refused(number));
+    }
+}
+
+impl Row {
+    /// The model must say of the image what the text says: no image stands under a wrong name.
+    fn agrees(&self) -> bool {
+        let text = show::text(&self.bytes);
+        let has = |title: &str, count: &usize| text.lines().any(|line| line == format!("{title} {count}"));
+        match &self.want {
+            Want::Counts(counts) => ["collections", "devices", "events"].iter().zip(counts).all(|(t, n)| has(t, n)),
+            Want::Refused(number) => text == format!("refused {number}\n"),
+            Want::Whole(whole) => text == *whole,
+            Want::Open => true,
+        }
+    }
+
+    /// A name that is there already is a fault of the set: one of the two images would be lost.
+    fn write(&self, folder: &Path) -> Result<()> {
+        let file = format!("{}-{}", self.kind, self.name);
+        if !self.agrees() {
+            return Err(Error::other(format!("{file}: the model does not say what the text says")));
+        }
+        let created = fs::File::create_new(folder.join(&file));
+        created.and_then(|mut image| image.write_all(&self.bytes)).map_err(|error| Error::new(error.kind(), file))
+    }
+}
+
+fn all() -> Set {
+    let mut set = Set::default();
+    lengths::add(&mut set);
+    collections::add(&mut set);
+    devices::add(&mut set);
+    places::add(&mut set);
+    events::add(&mut set);
+    order::add(&mut set);
+    random::add(&mut set);
+    set
+}
+
+/// How many images of each kind there are, in the order of their making.
+fn tell(set: &Set) {
+    let mut kinds: Vec<(&str, usize)> = Vec::new();
+    for row in &set.rows {
+        match kinds.last_mut() {
+            Some((kind, count)) if *kind == row.kind => *count += 1,
+            _ => kinds.push((row.kind, 1)),
+        }
+    }
+    let kinds: Vec<String> = kinds.iter().map(|(kind, count)| format!("{kind} {count}")).collect();
+    println!("images: {} ({})", set.rows.len(), kinds.join(", "));
+}
+
+/// The folder must be a new one, so that no image of another set lies in it.
+fn write_all(set: &Set, folder: &Path) -> Result<()> {
+    fs::create_dir(folder)?;
+    set.rows.iter().try_for_each(|row| row.write(folder))
+}
+
+/// Writes the set; the exit status is 0 if all of it was written.
+pub fn run(folder: &str) -> i32 {
+    let set = all();
+    match write_all(&set, Path::new(folder)) {
+        Ok(()) => {
+            tell(&set);
+            0
+        }
+        Err(error) => {
+            eprintln!("{folder}: {error}");
+            1
+        }
+    }
+}
