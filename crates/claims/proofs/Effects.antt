@@ -1,15 +1,18 @@
--- Demand 2, besides soundness: what set-up, save and restore leave. Assumes nothing.
-use Prim.Native.Nat.{ℕ, _+_, _<_}
+-- Demand 2: what set-up, save and restore leave, and all of it under one name, `demand2`. Assumes nothing.
+use Prim.Native.Nat.{ℕ, _+_, _≤_, _<_}
 use mathlib.Core.Path.{_≡_, refl, sym, ap, _∙_}
-use mathlib.Core.List.{List}
+use mathlib.Core.List.{List, [], _∷_}
 use lib.ListN.{length, getD}
 use lib.Dec.{eqb}
 use borrow.Author.Tests.{eqb-true}
-use Rattle.lists.proofs.All.{All}
+use Rattle.lists.proofs.All.{All, none, more}
 use Rattle.words.proofs.Bytes.{Bytes}
 use Rattle.answers.specs.Errno.{listed}
 use Rattle.answers.specs.Answer.{done}
+use Rattle.areas.specs.declared.Area.{Area}
+use Rattle.areas.specs.Area.{endOf}
 use Rattle.rules.specs.Rules.{memoryOk}
+use Rattle.irqs.proofs.Apart.{irqSet-apart, irqClear-apart, irqLine-apart, irqTrigger-apart, setGroup5-apart, setGroup7-apart}
 use Rattle.mapping.specs.Commands.{tableAreas}
 use Rattle.layout.specs.Layout.{size, decode}
 use Rattle.maplayout.specs.MapLayout.{decodeMap}
@@ -21,9 +24,10 @@ use Rattle.kept.proofs.Choice.{choose-by}
 use Rattle.calls.specs.Sound.{sound, Sound}
 use Rattle.calls.specs.Call.{Reply, setUp}
 use Rattle.claims.specs.Step.{step, setup, itsSave, itsRestore}
+use Rattle.claims.specs.Demand2.{Demand2}
 use Rattle.claims.specs.Demand3.{Accepted, Ready}
 use Rattle.claims.proofs.Stored.{says}
-use Rattle.claims.proofs.Demand2.{setup-sound}
+use Rattle.claims.proofs.Demand2.{setup-sound, sound-stays}
 use Rattle.claims.proofs.Demand3.{unrefused, saves-is, comes-to, taken-guest}
 
 -- set-up, where accepted, makes sound bytes of any bytes
@@ -72,3 +76,29 @@ module _ (s mem : List ℕ) (h : Ready s mem) where
       by : (o : Out) → restored (decode s) mem ≡ o → decode (step itsRestore s mem .state) ≡ decode s
       by (fault e) q = ap (λ (r : Reply). decode (r .lent)) (comes-to s mem h (fault e) q)
       by (found k) q = taken-guest s mem h k q
+
+none-holds : (x : ℕ) (l : List Area) → All (λ (a : Area). a .start ≤ x → x < endOf a → ⊥) l → All (λ (a : Area). Holds a x → ⊥) l
+none-holds x [] none = none
+none-holds x (a ∷ l) (more p q) = more (λ h. p (h .low) (h .high)) (none-holds x l q)
+
+-- Demand 2 whole, over every public call
+pub demand2 : Demand2
+demand2 = record {
+  stays = sound-stays;
+  makes = setup-makes;
+  saves = λ s mem h. record {
+    state = save-state s mem h;
+    memory = save-memory s mem h;
+    size = save-length s mem h;
+    outside = λ i l o. save-outside s mem h i l (none-holds (decode s .memory .start + i) (tableAreas (decode s) (decodeMap s .devices)) o);
+  };
+  restores = λ s mem h. record { memory = restore-memory s mem h; guest = restore-guest s mem h };
+  apart = λ j k n m. record {
+    set = irqSet-apart j k m n;
+    clear = irqClear-apart j k m n;
+    line = irqLine-apart j k m n;
+    trigger = irqTrigger-apart j k m n;
+    group5 = setGroup5-apart j k m n;
+    group7 = setGroup7-apart j k m n;
+  };
+}
