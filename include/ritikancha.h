@@ -108,7 +108,7 @@ int64_t rk_vcpus_stop(uint8_t *state, size_t state_len);
  *   0x204 to 0x27C    by 4: the latch word of INTIDs 32n to 32n + 31 at 0x200 + 4n, written whole
  *   0x200, 0x280 to 0x2FC  by 4: the write is ignored
  *
- * Group 3, attribute 0, 4 bytes: the interrupt count.
+ * Group 3, attribute 0, 4 bytes: the interrupt count. The shared banks of the new count are fresh.
  *   -RK_EINVAL  not 64 to 1,024 in steps of 32
  *   -RK_EBUSY   set before (256 too), or after VGIC INIT
  *

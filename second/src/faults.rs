@@ -15,7 +15,7 @@ struct Fault {
 fn lists() -> Vec<&'static str> {
     let mut lists = vec!["holds", "numbers", "frames", "banks"];
     if cfg!(feature = "its") {
-        lists.extend(["its", "save"]);
+        lists.extend(["sound", "its", "save"]);
     }
     if cfg!(feature = "restore") {
         lists.push("restore");
@@ -86,6 +86,8 @@ fn build(copy: &Path) -> Result<(), String> {
         .args(["build", "--release", "--offline", "--quiet", "-j1", "--features", features()])
         .env("CARGO_TARGET_DIR", copy.join("target"))
         .env("CARGO_INCREMENTAL", "1")
+        // Without it each small edit is optimised again over the whole program.
+        .env("CARGO_PROFILE_RELEASE_LTO", "off")
         .env("RUSTFLAGS", "-Awarnings")
         .current_dir(copy)
         .output()

@@ -13,6 +13,7 @@ mod rng;
 #[cfg(feature = "restore")]
 mod show;
 mod sides;
+mod state;
 mod trace;
 
 use report::{Kind, Report};
@@ -33,10 +34,10 @@ fn usage() -> ! {
     exit(2)
 }
 
-/// The length of the state is a number that can be lent, and always the same.
+/// The length of the state is the layout's, and always the same. On another length no judge could be asked.
 fn check_length(report: &mut Report) {
     let first = ffi::state_len();
-    if first > 0 && first == ffi::state_len() {
+    if first == state::layout::LENGTH as i64 && first == ffi::state_len() {
         report.pass(1);
         return;
     }

@@ -1,8 +1,8 @@
 //! A trace: calls with what is expected of each, as bytes, for `replay.c` to make again on another archive.
 //!
 //! What is expected of a call are the answer and the lent bytes of the model (of the text, where a state is not sound), and
-//! a checksum of the state that the library left: its bytes are the library's own layout, which the model does not know. Library
-//! and model must agree while a trace is written; a run with a difference leaves none.
+//! a checksum of the state that the library left: the model reads states, but makes none. Library and model must agree while a
+//! trace is written; a run with a difference leaves none.
 //!
 //! Calls are made on many copies of states and from many places, and a trace is the list of them in order: so it is kept once
 //! for the program, like a log, and notes nothing while none is open.

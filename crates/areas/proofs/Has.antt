@@ -10,7 +10,8 @@ use lib.Seq.{drop-cons, length-take-le, getD-take}
 use lib.Dec.{ltb, leb·suc-suc}
 use borrow.Author.Tests.{lt-ltb}
 use Rattle.lists.specs.Rows.{choose, findIx}
-use Rattle.areas.proofs.Tests.{or-assoc}
+use Rattle.lists.proofs.All.{All, none, more}
+use Rattle.areas.proofs.Tests.{or-assoc, or-left, or-right}
 
 -- what is left of the rows of a table from the row at i on
 pub rows-left : {A : Type 0} (d : A) (n : ℕ) (l : List A) (i : ℕ) → n ≤ length l → i < n → drop i (take n l) ≡ getD l i d ∷ drop (i + 1) (take n l)
@@ -42,6 +43,17 @@ module _ {A : Type 0} (p : A → Bool) where
   has-append (x ∷ l) r =
       has-cons x (l ++ r) ∙ ap (λ (b : Bool). p x || b) (has-append l r) ∙ sym (or-assoc (p x) (has l) (has r))
       ∙ ap (λ (b : Bool). b || has r) (sym (has-cons x l))
+
+  -- where none is found none passes, and back
+  pub has-none : (l : List A) → has l ≡ false → All (λ x. p x ≡ false) l
+  has-none [] e = none
+  has-none (x ∷ l) e =
+      let f = sym (has-cons x l) ∙ e in
+      more (or-left (p x) (has l) f) (has-none l (or-right (p x) (has l) f))
+
+  pub none-has : (l : List A) → All (λ x. p x ≡ false) l → has l ≡ false
+  none-has [] none = has-nil
+  none-has (x ∷ l) (more e r) = has-cons x l ∙ rw e (none-has l r)
 
   -- a loop over the rows of a table: what is left from the row at i on
   module _ (d : A) (n : ℕ) (l : List A) (i : ℕ) (f : n ≤ length l) where

@@ -2,15 +2,18 @@
 use Prim.Native.Nat.{ℕ, _≤_, _<_, min, max}
 use native.Mathlib.Nat.{min-comm, max-comm}
 use native.Mathlib.Omega.{arith}
-use mathlib.Core.Path.{_≡_, sym, ap, ap₂, _∙_}
+use mathlib.Core.Path.{_≡_, refl, sym, ap, ap₂, _∙_}
 use mathlib.Core.Bool.{Bool, true, false, _||_, not}
 use mathlib.Core.List.{List, [], _∷_, _++_, append-nil}
-use lib.Dec.{ltb}
-use borrow.Author.Tests.{lt-ltb, ltb-true, not-true}
+use lib.Dec.{ltb, leb}
+use borrow.Author.Tests.{lt-ltb, ltb-true, le-leb, leb-true, not-true}
+use Rattle.lists.proofs.All.{All}
+use Rattle.lists.proofs.Member.{all-weaker}
+use Rattle.lists.proofs.Pairs.{Pairs, alone, before}
 use Rattle.areas.specs.declared.Area.{Area}
-use Rattle.areas.specs.Area.{endOf, overlaps, struck, strikes, apart}
-use Rattle.areas.proofs.Tests.{and-left, and-right, or-assoc, or-comm, or-left, or-right}
-use Rattle.areas.proofs.Has.{has-nil, has-cons, has-append}
+use Rattle.areas.specs.Area.{endOf, inside, overlaps, struck, strikes, apart}
+use Rattle.areas.proofs.Tests.{clash, refuted, split, join, and-left, and-right, or-assoc, or-comm, or-left, or-right}
+use Rattle.areas.proofs.Has.{has-nil, has-cons, has-append, has-none, none-has}
 
 module _ (a b : Area) where
   pub overlaps-sym : overlaps a b ≡ overlaps b a
@@ -31,6 +34,33 @@ module _ (a b : Area) where
   unfolding overlaps
   byte-overlaps s =
       lt-ltb (max (a .start) (b .start)) (min (endOf a) (endOf b)) (omega (arith, s .1, s .2, s .3, s .4))
+
+  -- they do not
+  abbrev pub Clear : Type 0
+  Clear = Shares → ⊥
+
+  pub clear-overlaps : Clear → overlaps a b ≡ false
+  clear-overlaps f = sym (refuted (overlaps a b) (λ e. f (overlaps-byte e)))
+
+  pub overlaps-clear : overlaps a b ≡ false → Clear
+  overlaps-clear e s = clash (byte-overlaps s) e
+
+  -- one inside the other
+  pub record Inside : Type 0 where
+    pub from : a .start ≤ b .start
+    pub upto : endOf b ≤ endOf a
+
+  pub inside-says : inside a b ≡ true → Inside
+  unfolding inside
+  inside-says e =
+      let p = split (leb (a .start) (b .start)) (leb (endOf b) (endOf a) ∷ []) e in
+      record { from = leb-true (a .start) (b .start) (p .0); upto = leb-true (endOf b) (endOf a) (p .1) }
+
+  pub inside-is : Inside → inside a b ≡ true
+  unfolding inside
+  inside-is p =
+      join (leb (a .start) (b .start)) (leb (endOf b) (endOf a) ∷ [])
+      (le-leb (a .start) (b .start) (p .from), le-leb (endOf b) (endOf a) (p .upto))
 
 -- what an area strikes in a list, by the list's parts
 module _ (a : Area) where
@@ -86,3 +116,24 @@ module _ (a : Area) (r : List Area) where
 -- the same at the end of the list
 pub apart-behind : (l : List Area) (a : Area) → apart l ≡ true → strikes l a ≡ false → apart (l ++ (a ∷ [])) ≡ true
 apart-behind l a e s = apart-insert a [] l (rw append-nil e) (rw append-nil s)
+
+-- what the test of a list says: no two of its areas share a byte
+module _ (a : Area) where
+  strikes-clear : (l : List Area) → strikes l a ≡ false → All (Clear a) l
+  unfolding strikes struck
+  strikes-clear l e = all-weaker (overlaps-clear a) l (has-none (overlaps a) l e)
+
+  clear-strikes : (l : List Area) → All (Clear a) l → strikes l a ≡ false
+  unfolding strikes struck
+  clear-strikes l r = none-has (overlaps a) l (all-weaker (clear-overlaps a) l r)
+
+pub apart-says : (l : List Area) → apart l ≡ true → Pairs Clear l
+unfolding apart
+apart-says [] e = alone
+apart-says (a ∷ l) e =
+    before (strikes-clear a l (not-true (strikes l a) (and-left (not (strikes l a)) (apart l) e))) (apart-says l (and-right (not (strikes l a)) (apart l) e))
+
+pub apart-is : (l : List Area) → Pairs Clear l → apart l ≡ true
+unfolding apart
+apart-is [] alone = refl
+apart-is (a ∷ l) (before c p) = rw (clear-strikes a l c) (apart-is l p)

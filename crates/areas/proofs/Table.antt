@@ -1,19 +1,15 @@
 -- The loops over a table of areas: what is left of the rows says what the whole does. Assumes nothing.
 use Prim.Native.Nat.{ℕ, _+_, _≤_, _<_}
-use mathlib.Core.Path.{_≡_, refl, ap, _∙_}
+use mathlib.Core.Path.{_≡_, ap, _∙_}
 use mathlib.Core.Bool.{Bool, true, false, _&&_, not}
 use mathlib.Core.List.{List}
 use lib.ListN.{length, getD, take, drop}
 use Rattle.areas.specs.declared.Area.{Area}
 use Rattle.areas.specs.Area.{overlaps, struck, strikes, apart}
-use Rattle.areas.proofs.Has.{has, rows-left, rows-end, has-here, has-later, has-end}
+use Rattle.areas.proofs.Has.{rows-left, rows-end, has-here, has-later, has-end}
 
 abbrev pub noArea : Area
 noArea = record { start = 0; size = 0 }
-
-pub strikes-has : (l : List Area) (a : Area) → strikes l a ≡ has (overlaps a) l
-unfolding strikes struck
-strikes-has l a = refl
 
 module _ (n : ℕ) (l : List Area) (i : ℕ) (f : n ≤ length l) where
   module _ (a : Area) where

@@ -63,21 +63,9 @@ pub refuted : (b : Bool) → (b ≡ true → ⊥) → false ≡ b
 refuted true f = absurd (f refl)
 refuted false f = refl
 
-pub and-assoc : (a b c : Bool) → (a && b && c) ≡ (a && (b && c))
-and-assoc true b c = refl
-and-assoc false b c = refl
-
 -- a negation
 pub not-holds : {b : Bool} → b ≡ false → not b ≡ true
 not-holds e = rw e
-
-pub not-fails : {b : Bool} → b ≡ true → not b ≡ false
-not-fails e = rw e
-
--- a disjunction
-pub or-false : (a : Bool) → (a || false) ≡ a
-or-false true = refl
-or-false false = refl
 
 pub or-true : (a : Bool) → (a || true) ≡ true
 or-true true = refl

@@ -2,8 +2,7 @@
 ghost use mathlib.Core.Path.{_≡_};
 ghost use mathlib.Core.List.{_++_, _∷_, []};
 ghost use Prim.Native.Nat.{_+_, _≤_, _<_};
-ghost use lib.ListN.{drop};
-ghost use Rattle.areas.specs.Area.{overlaps, endsBy, inside, struck, strikes, apart, areas};
+ghost use Rattle.areas.specs.Area.{overlaps, endsBy, inside, struck, strikes, areas};
 
 pub struct Area {
     pub start: u64,
@@ -101,38 +100,4 @@ pub fn with_area(t: Areas, a: Area) -> Areas
     next.rows[at] = a;
     next.count = at + 1;
     next
-}
-
-// Whether an area overlaps one of the rows of a table from `from` on.
-fn strikes_from(t: Areas, from: usize, a: Area) -> bool
-    requires { ⌜ (from ≤ t .count) × (t .count ≤ 36) ⌝ }
-    ensures { λ r. ⌜ r ≡ strikes (drop from (areas t)) a ⌝ }
-{
-    let n = t.count;
-    let mut i = from;
-    while i < n {
-        let b = t.rows[i];
-        if overlaps(a, b) {
-            return true;
-        }
-        i += 1;
-    }
-    false
-}
-
-// Whether no two areas of a table overlap.
-pub fn apart(t: Areas) -> bool
-    requires { ⌜ t .count ≤ 36 ⌝ }
-    ensures { λ r. ⌜ r ≡ apart (areas t) ⌝ }
-{
-    let n = t.count;
-    let mut i: usize = 0;
-    while i < n {
-        let a = t.rows[i];
-        if strikes_from(t, i + 1, a) {
-            return false;
-        }
-        i += 1;
-    }
-    true
 }

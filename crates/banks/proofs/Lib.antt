@@ -4,3 +4,4 @@ pub mod Store
 pub mod LatchBit
 pub mod Through
 pub mod Words
+pub mod Anchors

@@ -1,20 +1,18 @@
--- The errno of every step is 0 or one that document 01 lists, and a refusal leaves the machine.
-use Prim.Native.Nat.{ℕ, _<_, _^_}
-use native.Mathlib.Omega.{arith}
+-- The errno of every step is 0 or one that document 01 lists.
+use Prim.Native.Nat.{ℕ, _<_}
 use mathlib.Core.Path.{_≡_, refl}
-use mathlib.Core.Bool.{Bool, true, false, _||_}
+use mathlib.Core.Bool.{true, _||_}
 use lib.Dec.{eqb}
-use Rattle.lists.specs.Rows.{choose}
 use Rattle.guest.specs.declared.Reading.{Reading}
 use Rattle.guest.specs.Machine.{Machine, Result, refuse, isRunning}
-use Rattle.kept.specs.Good.{listed, Good}
+use Rattle.kept.specs.Good.{listed}
 use Rattle.kept.proofs.Choice.{chosen}
-use Rattle.kept.proofs.Answers.{addVcpu-listed, addVcpu-leaves, setRunning-listed, setRunning-leaves, setIrqs-listed, setIrqs-leaves, itsInit-listed, itsInit-leaves, setGroup0-listed, setGroup0-leaves, setItsGroup0-listed, setItsGroup0-leaves, vgicInit-listed, vgicInit-leaves}
-use Rattle.kept.proofs.Readings.{getIrqs-listed, getIrqs-small, getGroup0-listed, getGroup0-small, getItsGroup0-listed, getItsGroup0-small, redistBase-listed, redistBase-small}
-use Rattle.irqkept.proofs.Answers.{irqSet-listed, irqSet-leaves, irqClear-listed, irqClear-leaves, irqLine-listed, irqLine-leaves, irqTrigger-listed, irqTrigger-leaves, setGroup1-listed, setGroup1-leaves, setGroup5-listed, setGroup5-leaves, setGroup7-listed, setGroup7-leaves, irqPending-listed, irqPending-small, getGroup1-listed, getGroup5-listed, getGroup7-listed, listed-small}
+use Rattle.kept.proofs.Answers.{addVcpu-listed, setRunning-listed, setIrqs-listed, itsInit-listed, setGroup0-listed, setItsGroup0-listed, vgicInit-listed}
+use Rattle.kept.proofs.Readings.{getIrqs-listed, getGroup0-listed, getItsGroup0-listed, redistBase-listed}
+use Rattle.irqkept.proofs.Answers.{irqSet-listed, irqClear-listed, irqLine-listed, irqTrigger-listed, setGroup1-listed, setGroup5-listed, setGroup7-listed, irqPending-listed, getGroup1-listed, getGroup5-listed, getGroup7-listed, listed-small}
 use Rattle.mapping.specs.Mapped.{Mapped, MapResult}
 use Rattle.mapping.specs.Commands.{placeFault}
-use Rattle.mapkept.proofs.Answers.{mapDevice-listed, unmapDevice-listed, mapCollection-listed, unmapCollection-listed, mapEvent-listed, discard-listed, move-listed, lookup-listed, placeFault-listed}
+use Rattle.mapkept.proofs.Answers.{mapDevice-listed, unmapDevice-listed, mapCollection-listed, unmapCollection-listed, mapEvent-listed, discard-listed, move-listed, placeFault-listed}
 use Rattle.calls.specs.declared.Command.{Command}
 use Rattle.calls.specs.declared.Command.the-variants.{Place, MapDevice, UnmapDevice, MapCollection, UnmapCollection, MapEvent, Discard, Move, Reset}
 use Rattle.calls.specs.declared.Change.{Change}
@@ -23,64 +21,57 @@ use Rattle.calls.specs.declared.Question.{Question}
 use Rattle.calls.specs.declared.Question.the-variants.{VgicGet, ItsGet, RedistBase, Pending}
 use Rattle.calls.specs.Groups.{setGroup4, vgicSet, vgicGet, setItsGroup4, itsSet, itsGet}
 use Rattle.calls.specs.Steps.{changeStep, askStep}
-use Rattle.calls.specs.Commands.{BoxResult, itsInitialised, ready, placedAt, onMapping, place, reset, commandStep, lookupStep, memoryFault}
+use Rattle.calls.specs.Commands.{BoxResult, itsInitialised, ready, placedAt, onMapping, place, reset, commandStep, memoryFault}
 
--- a listed errno, and a refusal leaves the machine
-pub record Fair (m : Machine) (r : Result) : Type 0 where
-  pub known : listed (r .errno) ≡ true
-  pub left : (r .errno ≡ 0 → ⊥) → r .next ≡ m
-
-refused-fair : (m : Machine) (e : ℕ) → listed e ≡ true → Fair m (refuse m e)
-refused-fair m e h = record { known = h; left = λ n. refl }
+-- a listed errno
+abbrev Fair : Result → Type 0
+Fair r = listed (r .errno) ≡ true
 
 module _ (m : Machine) where
   -- the numbers that the groups themselves refuse with
-  six : Fair m (refuse m 6)
+  six : Fair (refuse m 6)
   unfolding listed
-  six = refused-fair m 6 refl
+  six = refl
 
-  fourteen : Fair m (refuse m 14)
+  fourteen : Fair (refuse m 14)
   unfolding listed
-  fourteen = refused-fair m 14 refl
+  fourteen = refl
 
-  either : (b : Bool) {x y : Result} → Fair m x → Fair m y → Fair m (choose b x y)
-  either b p q = chosen (Fair m) b p q
-
-  vgic-fair : (group attribute width value : ℕ) → Fair m (vgicSet group attribute width value m)
+  vgic-known : (group attribute width value : ℕ) → Fair (vgicSet group attribute width value m)
   unfolding vgicSet setGroup4
-  vgic-fair group attribute width value =
-      either (eqb group 0) (record { known = setGroup0-listed attribute width value m; left = setGroup0-leaves attribute width value m })
-      (either (eqb group 1) (record { known = setGroup1-listed attribute width value m; left = setGroup1-leaves attribute width value m })
-      (either (eqb group 3) (record { known = setIrqs-listed attribute width value m; left = setIrqs-leaves attribute width value m })
-      (either (eqb group 4)
-      (either (eqb attribute 0) (either (eqb width 0) (record { known = vgicInit-listed m; left = vgicInit-leaves m }) fourteen) six)
-      (either (eqb group 5) (record { known = setGroup5-listed attribute width value m; left = setGroup5-leaves attribute width value m })
-      (either (eqb group 7) (record { known = setGroup7-listed attribute width value m; left = setGroup7-leaves attribute width value m })
+  vgic-known group attribute width value =
+      chosen Fair (eqb group 0) (setGroup0-listed attribute width value m)
+      (chosen Fair (eqb group 1) (setGroup1-listed attribute width value m)
+      (chosen Fair (eqb group 3) (setIrqs-listed attribute width value m)
+      (chosen Fair (eqb group 4)
+      (chosen Fair (eqb attribute 0) (chosen Fair (eqb width 0) (vgicInit-listed m) fourteen) six)
+      (chosen Fair (eqb group 5) (setGroup5-listed attribute width value m)
+      (chosen Fair (eqb group 7) (setGroup7-listed attribute width value m)
       six)))))
 
-  its-fair : (group attribute width value : ℕ) → Fair m (itsSet group attribute width value m)
+  its-known : (group attribute width value : ℕ) → Fair (itsSet group attribute width value m)
   unfolding itsSet setItsGroup4
-  its-fair group attribute width value =
-      either (eqb group 0) (record { known = setItsGroup0-listed attribute width value m; left = setItsGroup0-leaves attribute width value m })
-      (either (eqb group 4)
-      (either (eqb attribute 0) (either (eqb width 0) (record { known = itsInit-listed m; left = itsInit-leaves m }) fourteen)
-      (either (eqb attribute 1 || eqb attribute 2) fourteen six))
+  its-known group attribute width value =
+      chosen Fair (eqb group 0) (setItsGroup0-listed attribute width value m)
+      (chosen Fair (eqb group 4)
+      (chosen Fair (eqb attribute 0) (chosen Fair (eqb width 0) (itsInit-listed m) fourteen)
+      (chosen Fair (eqb attribute 1 || eqb attribute 2) fourteen six))
       six)
 
-  pub change-fair : (c : Change) → Fair m (changeStep c m)
-  change-fair (AddVcpu a) = record { known = addVcpu-listed a m; left = addVcpu-leaves a m }
-  change-fair Start = record { known = setRunning-listed 1 m; left = setRunning-leaves 1 m }
-  change-fair Stop = record { known = setRunning-listed 0 m; left = setRunning-leaves 0 m }
-  change-fair (VgicSet group attribute width value) = vgic-fair group attribute width value
-  change-fair (ItsSet group attribute width value) = its-fair group attribute width value
-  change-fair (SetPending k i) = record { known = irqSet-listed k i m; left = irqSet-leaves k i m }
-  change-fair (ClearPending k i) = record { known = irqClear-listed k i m; left = irqClear-leaves k i m }
-  change-fair (Activate k i) = record { known = irqClear-listed k i m; left = irqClear-leaves k i m }
-  change-fair (Line k i l) = record { known = irqLine-listed k i l m; left = irqLine-leaves k i l m }
-  change-fair (Trigger k i w) = record { known = irqTrigger-listed k i w m; left = irqTrigger-leaves k i w m }
+  pub change-known : (c : Change) → Fair (changeStep c m)
+  change-known (AddVcpu a) = addVcpu-listed a m
+  change-known Start = setRunning-listed 1 m
+  change-known Stop = setRunning-listed 0 m
+  change-known (VgicSet group attribute width value) = vgic-known group attribute width value
+  change-known (ItsSet group attribute width value) = its-known group attribute width value
+  change-known (SetPending k i) = irqSet-listed k i m
+  change-known (ClearPending k i) = irqClear-listed k i m
+  change-known (Activate k i) = irqClear-listed k i m
+  change-known (Line k i l) = irqLine-listed k i l m
+  change-known (Trigger k i w) = irqTrigger-listed k i w m
 
   pub change-small : (c : Change) → changeStep c m .errno < 4096
-  change-small c = listed-small _ (change-fair c .known)
+  change-small c = listed-small _ (change-known c)
 
   -- questions
   abbrev Known : Reading → Type 0
@@ -135,10 +126,6 @@ module _ (m : Machine) (k : Mapped) where
 
   pub command-small : (c : Command) → commandStep c m k .errno < 4096
   command-small c = listed-small _ (command-known c)
-
-  pub look-known : (device event : ℕ) → listed (lookupStep device event m k .errno) ≡ true
-  unfolding lookupStep listed
-  look-known device event = chosen (λ (r : Reading). listed (r .errno) ≡ true) (ready m) (lookup-listed device event k) refl
 
   pub memory-known : (len : ℕ) → listed (memoryFault len m) ≡ true
   unfolding memoryFault listed

@@ -3,7 +3,6 @@ use Prim.Native.Nat.{ℕ}
 use mathlib.Core.Path.{_≡_, refl, sym, _∙_, subst}
 use mathlib.Core.Bool.{Bool, true, false}
 use mathlib.Core.List.{List}
-use lib.Dec.{eqb}
 use borrow.Author.Tests.{eq-eqb, ne-eqb}
 use Rattle.lists.specs.Rows.{choose}
 use Rattle.guest.specs.declared.Guest.{Guest}
@@ -19,7 +18,7 @@ use Rattle.mapping.specs.Mapped.{Mapped, MapResult, Maps, Holds, rows, empty}
 use Rattle.mapping.specs.Commands.{placeFault, lookup}
 use Rattle.mapping.specs.MapRules.{MapKept}
 use Rattle.calls.specs.declared.BoxOutcome.{BoxOutcome}
-use Rattle.calls.specs.Commands.{BoxResult, BoxDoes, refuseBox, ready, placedAt, onMapping, place, reset, lookupStep, memoryFault}
+use Rattle.calls.specs.Commands.{BoxDoes, refuseBox, ready, placedAt, onMapping, place, reset, lookupStep, memoryFault}
 
 -- a mapping command before the ITS is ready, and once it is
 module _ {o : BoxOutcome} (r : MapResult) (m : Machine) (k : Mapped) {b : Bool} (p : b ≡ ready m) where

@@ -1,13 +1,12 @@
 -- The ends of a call on lent bytes, and what the test of the state tells.
 use Prim.Native.Nat.{ℕ, _<_}
 use native.Mathlib.Omega.{arith}
-use mathlib.Core.Path.{_≡_, refl, sym, ap, ap₂, _∙_, subst}
-use mathlib.Core.Bool.{Bool, true, false, _&&_}
+use mathlib.Core.Path.{_≡_, sym, ap, ap₂, _∙_, subst}
+use mathlib.Core.Bool.{Bool, true, false}
 use mathlib.Core.List.{List, [], _∷_}
 use lib.IntN.{ℤ}
 use lib.ListN.{length}
 use lib.Seq.{take-all}
-use lib.Dec.{eqb}
 use Rattle.words.specs.Words.{le, leAt, bytesOf}
 use borrow.Author.Tests.{eq-eqb, ne-eqb}
 use Rattle.answers.specs.Answer.{refusal, done}
@@ -28,7 +27,7 @@ use Rattle.calls.specs.declared.BoxOutcome.{BoxOutcome}
 use Rattle.calls.specs.declared.Command.{Command}
 use Rattle.calls.specs.Steps.{changeStep, askStep}
 use Rattle.calls.specs.Commands.{BoxResult, BoxDoes, refuseBox, commandStep, lookupStep}
-use Rattle.calls.specs.Sound.{sound}
+use Rattle.state.specs.Sound.{sound}
 use Rattle.calls.specs.Call.{changes, asks, commands, looks, setUp, valueOf, given, Gives, settled, settledBox}
 use Rattle.calls.proofs.Answers.{change-small, command-small}
 

@@ -4,3 +4,4 @@ pub mod Laws
 pub mod Saving
 pub mod Copied
 pub mod Restoring
+pub mod Anchors

@@ -7,17 +7,15 @@ use mathlib.Core.Logic.{⊎-elim}
 use mathlib.Core.List.{List}
 use lib.IntN.{ℤ}
 use lib.ListN.{length}
-use lib.Dec.{eqb}
 use borrow.Author.Tests.{eq-eqb, ne-eqb}
 use Rattle.answers.specs.Answer.{refusal, done}
 use Rattle.layout.specs.Layout.{size, decode}
-use Rattle.maplayout.specs.MapLayout.{storedMap}
 use Rattle.tables.specs.Restored.{Out, fault, found, restored}
 use Rattle.described.proofs.Faults.{Known}
 use Rattle.described.proofs.Exact.{fault-known}
 use Rattle.restore.specs.Restores.{errnoOf, Restorable, Restores}
 use Rattle.calls.specs.Commands.{memoryFault}
-use Rattle.calls.specs.Sound.{sound}
+use Rattle.state.specs.Sound.{sound}
 use Rattle.calls.specs.Call.{restores, restoredTo, Gives}
 use Rattle.calls.proofs.Laws.{parts}
 use Rattle.calls.proofs.Saving.{fault-long, fault-placed}

@@ -19,7 +19,7 @@ use Rattle.maplayout.specs.MapLayout.{decodeMap}
 use Rattle.irqkept.proofs.Answers.{listed-small}
 use Rattle.tables.specs.Saved.{savedMemory}
 use Rattle.calls.specs.Commands.{itsInitialised, ready, memoryFault}
-use Rattle.calls.specs.Sound.{sound}
+use Rattle.state.specs.Sound.{sound}
 use Rattle.calls.specs.Call.{saves, Gives}
 use Rattle.calls.proofs.Answers.{memory-known}
 

@@ -1,7 +1,7 @@
 -- Calls on lent bytes: the state, and the value of an attribute.
 use Prim.Native.Nat.{ℕ}
 use mathlib.Core.Path.{_≡_}
-use mathlib.Core.Bool.{Bool, _||_, _&&_}
+use mathlib.Core.Bool.{_||_, _&&_}
 use mathlib.Core.List.{List}
 use lib.IntN.{ℤ}
 use lib.ListN.{length}
@@ -9,15 +9,14 @@ use lib.Dec.{eqb}
 use Rattle.lists.specs.Rows.{choose}
 use Rattle.answers.specs.Answer.{refusal, done}
 use Rattle.words.specs.Words.{le, bytesOf}
-use Rattle.guest.specs.declared.Memory.{Memory}
 use Rattle.guest.specs.declared.Reading.{Reading}
-use Rattle.guest.specs.Machine.{Machine, Result, fresh}
+use Rattle.guest.specs.Machine.{Result, fresh}
 use Rattle.rules.specs.Rules.{memoryOk}
 use Rattle.layout.specs.Layout.{size, decode, stored}
 use Rattle.calls.specs.declared.Change.{Change}
 use Rattle.calls.specs.declared.Question.{Question}
 use Rattle.calls.specs.Steps.{changeStep, askStep}
-use Rattle.mapping.specs.Mapped.{Mapped, empty}
+use Rattle.mapping.specs.Mapped.{empty}
 use Rattle.maplayout.specs.MapLayout.{decodeMap, storedMap}
 use Rattle.tables.specs.Saved.{savedMemory}
 use Rattle.tables.specs.Restored.{Out, fault, found, restored}
@@ -25,7 +24,7 @@ use Rattle.calls.specs.declared.Command.{Command}
 use Rattle.calls.specs.declared.Command.the-variants.{Reset}
 use Rattle.calls.specs.Commands.{BoxResult, commandStep, lookupStep, memoryFault}
 use Rattle.calls.specs.declared.Change.the-variants.{ItsSet}
-use Rattle.calls.specs.Sound.{sound}
+use Rattle.state.specs.Sound.{sound}
 
 -- what a call hands back, and what it leaves in the lent bytes
 pub record Reply : Type 0 where
@@ -40,19 +39,20 @@ refused s e = record { answer = refusal e; lent = s }
 abbrev pub settled : List ℕ → Result → Reply
 settled s r = choose (eqb (r .errno) 0) (record { answer = done 0; lent = stored (r .next) s }) (refused s (r .errno))
 
--- "a wrong length is -14, bytes that break this page's rules -22, before any other check": so too in each kind of call below
+-- "a wrong length is -14, bytes that break this page's rules -22, before any other check": the opening of every call but set-up
+abbrev pub guarded : {A : Type 0} → (ℕ → A) → A → List ℕ → A
+guarded refuse go s = choose (eqb (length s) size) (choose (sound s) go (refuse 22)) (refuse 14)
+
+-- a call that may change the guest
 unfoldable pub changes : Change → List ℕ → Reply
-changes c s =
-    choose (eqb (length s) size)
-    (choose (sound s) (settled s (changeStep c (decode s))) (refused s 22))
-    (refused s 14)
+changes c s = guarded (refused s) (settled s (changeStep c (decode s))) s
 
 -- a question leaves the state
+abbrev pub untold : ℕ → Reading
+untold e = record { errno = e; number = 0 }
+
 unfoldable pub asks : Question → List ℕ → Reading
-asks q s =
-    choose (eqb (length s) size)
-    (choose (sound s) (askStep q (decode s)) (record { errno = 22; number = 0 }))
-    (record { errno = 14; number = 0 })
+asks q s = guarded untold (askStep q (decode s)) s
 
 -- a question for a number
 abbrev pub answered : Reading → ℤ
@@ -86,10 +86,7 @@ settledBox s r =
     (refused s (r .errno))
 
 unfoldable pub commands : Command → List ℕ → Reply
-commands c s =
-    choose (eqb (length s) size)
-    (choose (sound s) (settledBox s (commandStep c (decode s) (decodeMap s))) (refused s 22))
-    (refused s 14)
+commands c s = guarded (refused s) (settledBox s (commandStep c (decode s) (decodeMap s))) s
 
 -- an attribute of the ITS: RESET is a command, every other goes by its group
 abbrev pub itsSets : ℕ → ℕ → ℕ → ℕ → List ℕ → Reply
@@ -98,21 +95,16 @@ itsSets group attribute width value s =
 
 -- lookup leaves the state
 unfoldable pub looks : ℕ → ℕ → List ℕ → Reading
-looks device event s =
-    choose (eqb (length s) size)
-    (choose (sound s) (lookupStep device event (decode s) (decodeMap s)) (record { errno = 22; number = 0 }))
-    (record { errno = 14; number = 0 })
+looks device event s = guarded untold (lookupStep device event (decode s) (decodeMap s)) s
 
 -- save: what is lent is the memory; the state stays
 unfoldable pub saves : List ℕ → List ℕ → Reply
 saves s mem =
-    choose (eqb (length s) size)
-    (choose (sound s)
+    guarded (refused mem)
     (choose (eqb (memoryFault (length mem) (decode s)) 0)
     (record { answer = done 0; lent = savedMemory (decode s) (decodeMap s) mem })
     (refused mem (memoryFault (length mem) (decode s))))
-    (refused mem 22))
-    (refused mem 14)
+    s
 
 -- restore "replaces the mapping and changes nothing else, in state or memory"
 abbrev pub restoredTo : List ℕ → Out → Reply
@@ -121,13 +113,11 @@ restoredTo s (found k) = record { answer = done 0; lent = storedMap k s }
 
 unfoldable pub restores : List ℕ → List ℕ → Reply
 restores s mem =
-    choose (eqb (length s) size)
-    (choose (sound s)
+    guarded (refused s)
     (choose (eqb (memoryFault (length mem) (decode s)) 0)
     (restoredTo s (restored (decode s) mem))
     (refused s (memoryFault (length mem) (decode s))))
-    (refused s 22))
-    (refused s 14)
+    s
 
 -- the promise of a call that may write what is lent
 pub record Gives (r : Reply) (answer : ℤ) (lent : List ℕ) : Type 0 where

@@ -1,7 +1,7 @@
 -- Attributes by group. "Order: unknown name; width of value or memory; not ready ..; running ..; then the order each section gives."
 -- Groups and attributes are compared whole.
 use Prim.Native.Nat.{ℕ}
-use mathlib.Core.Bool.{Bool, _||_}
+use mathlib.Core.Bool.{_||_}
 use lib.Dec.{eqb}
 use Rattle.lists.specs.Rows.{choose}
 use Rattle.guest.specs.declared.Reading.{Reading}

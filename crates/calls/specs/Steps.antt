@@ -1,5 +1,4 @@
 -- Each call as a step of the machine.
-use Prim.Native.Nat.{ℕ}
 use Rattle.guest.specs.declared.Reading.{Reading}
 use Rattle.guest.specs.Machine.{Machine, Result}
 use Rattle.frames.specs.Vcpus.{addVcpu, setRunning}

@@ -13,7 +13,7 @@ ghost use Rattle.rules.specs.Rules.{Kept};
 ghost use Rattle.layout.specs.Layout.{size, decode, stored};
 ghost use Rattle.maplayout.specs.MapLayout.{decodeMap, storedMap};
 ghost use Rattle.calls.specs.Steps.{changeStep, askStep};
-ghost use Rattle.calls.specs.Sound.{sound};
+ghost use Rattle.state.specs.Sound.{sound};
 ghost use Prim.Native.Nat.{_<_, _^_};
 ghost use Rattle.mapping.specs.Mapped.{rows, Within};
 ghost use Rattle.mapping.specs.MapRules.{MapKept};

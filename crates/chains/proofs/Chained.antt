@@ -1,17 +1,11 @@
 -- A path that ends well is a chain of links, and the other way round. Assumes nothing.
 use mathlib.Core.Path.{_≡_, refl, sym, ap, _∙_}
-use mathlib.Core.Bool.{Bool, true, false}
-use mathlib.Core.Logic.{_⊎_, inl, inr, ⊎-elim}
 use mathlib.Core.List.{List, [], _∷_}
-use Prim.Native.Nat.{ℕ, zero, suc, _+_, _-_, _≤_, _<_, min}
+use Prim.Native.Nat.{ℕ, zero, suc, _+_, _-_, _≤_, _<_}
 use native.Mathlib.Omega.{arith}
-use lib.Dec.{ltb, leb, eqb}
-use borrow.Author.Tests.{lt-ltb, le-ltb, le-leb, lt-leb, eq-eqb, ne-eqb, ltb-true, ltb-false, leb-true, leb-false, eqb-true, eqb-false}
-use Rattle.chains.proofs.Scan.{lt-or-ge}
-use Rattle.lists.specs.Rows.{choose}
 use Rattle.chains.specs.declared.Next.{Next}
 use Rattle.chains.specs.declared.Next.the-variants.{Last, At, Bad}
-use Rattle.chains.specs.Slots.{Slots, scan, firstFrom, following, Path, final, broken, onto, onward, path, whole, Blank, Link, Links}
+use Rattle.chains.specs.Slots.{Slots, following, Path, final, broken, onto, onward, path, whole, Links}
 use Rattle.chains.proofs.Way.{leads, led, ends, ended}
 
 abbrev head : Path → ℕ

@@ -8,7 +8,6 @@ use lib.ListN.{length}
 use lib.Dec.{eqb}
 use borrow.Author.Tests.{eqb-false, ne-eqb}
 use Rattle.answers.specs.Errno as errnos
-use Rattle.answers.specs.Answer.{refusal}
 use Rattle.guest.specs.declared.Reading.{Reading}
 use Rattle.guest.specs.Machine.{Machine, isRunning}
 use Rattle.rules.specs.Rules.{memoryOk}
@@ -30,10 +29,10 @@ use Rattle.calls.specs.declared.Command.{Command}
 use Rattle.calls.specs.declared.Command.the-variants.{Place, MapDevice, UnmapDevice, MapCollection, UnmapCollection, MapEvent, Discard, Move, Reset}
 use Rattle.calls.specs.Steps.{changeStep}
 use Rattle.calls.specs.Commands.{BoxResult, itsInitialised, ready, onMapping, placedAt, place, reset, commandStep, lookupStep, memoryFault}
-use Rattle.calls.specs.Sound.{sound}
+use Rattle.state.specs.Sound.{sound}
 use Rattle.calls.specs.Call.{Reply, changes, asks, setUp, valueOf, given, answered, refused, commands, looks, saves, restoredTo, restores}
-use Rattle.calls.proofs.Answers.{change-fair, ask-known}
-use Rattle.claims.specs.Step.{Call, step, writes, gives, tells, stateLen, vcpusStart, vcpusStop, setup, vcpuAdd, redistBase, vgicSet, itsSet, vgicGet, itsGet, irqPending, irqSetPending, irqClearPending, irqActivate, irqLine, irqTrigger, itsPlace, itsMapEvent, itsMapDevice, itsMove, itsMapCollection, itsDiscard, itsLookup, itsUnmapDevice, itsUnmapCollection, itsSave, itsRestore}
+use Rattle.calls.proofs.Answers.{change-known, ask-known}
+use Rattle.step.specs.Step.{Call, step, writes, gives, tells, stateLen, vcpusStart, vcpusStop, setup, vcpuAdd, redistBase, vgicSet, itsSet, vgicGet, itsGet, irqPending, irqSetPending, irqClearPending, irqActivate, irqLine, irqTrigger, itsPlace, itsMapEvent, itsMapDevice, itsMove, itsMapCollection, itsDiscard, itsLookup, itsUnmapDevice, itsUnmapCollection, itsSave, itsRestore}
 use Rattle.claims.specs.Claims.{Answers, succeeds, refuses}
 
 or-end : (b : Bool) → (b || false) ≡ b
@@ -108,7 +107,7 @@ module _ (s v : List ℕ) where
       (chosen Fair (sound s)
       (choose-by Fair (eqb (changeStep c (decode s) .errno) 0)
       (λ _. succeeds 0 refl)
-      (λ q. refuses (changeStep c (decode s) .errno) (in-table _ (change-fair (decode s) c .known) (eqb-false _ 0 q)) refl refl refl))
+      (λ q. refuses (changeStep c (decode s) .errno) (in-table _ (change-known (decode s) c) (eqb-false _ 0 q)) refl refl refl))
       twentytwo)
       fourteen
 

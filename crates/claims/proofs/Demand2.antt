@@ -1,297 +1,154 @@
--- Sound stays sound: every call on sound bytes leaves sound ones, and set-up makes sound bytes of any of the right length. Assumes
--- nothing.
-use Prim.Native.Nat.{ℕ, _≤_, _<_, _^_}
-use native.Mathlib.Nat.{lt-of-lt-of-le}
-use native.Mathlib.Omega.{arith}
-use mathlib.Core.Path.{_≡_, refl}
-use mathlib.Core.Bool.{Bool, true, false, _||_, _&&_}
-use mathlib.Core.List.{List}
-use lib.ListN.{length}
-use lib.Dec.{eqb, leb, lit<, lit≤}
-use lib.Pow.{pow-mono}
-use borrow.Author.Tests.{eqb-true, leb-true}
+-- Demand 2: what set-up, save and restore leave, and all of it under one name, `demand2`. Assumes nothing.
+use Prim.Native.Nat.{ℕ, _+_, _*_, _^_, _≤_, _<_}
+use mathlib.Core.Path.{_≡_, refl, sym, ap, _∙_}
+use mathlib.Core.List.{List, [], _∷_}
+use lib.ListN.{length, getD}
+use lib.Dec.{eqb}
+use borrow.Author.Tests.{eqb-true, eqb-false}
 use Rattle.lists.specs.Rows.{choose}
-use Rattle.words.specs.Words.{le}
-use Rattle.words.proofs.Bytes.{Bytes, le-bound}
-use Rattle.areas.specs.Area.{inside, endOf}
-use Rattle.guest.specs.declared.Table.{Table}
-use Rattle.guest.specs.Machine.{Machine, fresh, isRunning, noTables, withTables}
-use Rattle.guest.specs.Words.{TableWords}
-use Rattle.rules.specs.Rules.{rules, memoryOk, memoryArea, tableArea}
-use Rattle.rules.proofs.Parts.{TableParts, memory-parts}
-use Rattle.rules.proofs.Facts.{sound-memory, sound-limit, sound-devices, sound-collections}
-use Rattle.frames.specs.Vcpus.{itsReset}
-use Rattle.layout.specs.Layout.{size, decode, stored}
-use Rattle.mapping.specs.Mapped.{Mapped, MapResult, empty}
-use Rattle.mapping.specs.Commands.{placeFault, mapDevice, unmapDevice, mapCollection, unmapCollection, mapEvent, discard, move}
-use Rattle.mapping.specs.MapRules.{isPlaced, mapRules}
-use Rattle.maplayout.specs.MapLayout.{decodeMap, storedMap}
+use Rattle.lists.proofs.All.{All, none, more}
+use Rattle.words.proofs.Bytes.{Bytes}
+use Rattle.answers.specs.Errno.{listed}
+use Rattle.answers.specs.Answer.{done}
+use Rattle.areas.specs.declared.Area.{Area}
+use Rattle.areas.specs.Area.{endOf}
+use Rattle.rules.specs.Rules.{memoryOk}
+use Rattle.mapping.specs.declared.Device.{Device}
+use Rattle.mapping.specs.Commands.{deviceEntries, tableAreas}
+use Rattle.layout.specs.Layout.{size, decode}
+use Rattle.maplayout.specs.MapLayout.{decodeMap}
+use Rattle.tables.specs.Bytes.{deviceTable, collectionTable, ittTable}
+use Rattle.tables.specs.Saved.{eventsOf, savedDevice, savedEvent, savedCollection, tableOf, savedMemory}
 use Rattle.tables.specs.Restored.{Out, fault, found, restored}
-use Rattle.mapkept.proofs.Sound as rows
-use Rattle.mapkept.proofs.Placing.{place-rules, place-keeps, unplace-keeps, machine-keeps}
-use Rattle.mapkept.proofs.Devices.{mapDevice-keeps, unmapDevice-keeps}
-use Rattle.mapkept.proofs.Collections.{mapCollection-keeps, unmapCollection-keeps}
-use Rattle.mapkept.proofs.Events.{mapEvent-keeps, discard-keeps, move-keeps}
-use Rattle.described.proofs.Exact.{restored-ok}
-use Rattle.kept.specs.Good.{Good, Stays, Keeps}
-use Rattle.kept.proofs.Choice.{chosen, choose-by, and-right}
-use Rattle.kept.proofs.Vcpus.{addVcpu-keeps, setRunning-keeps, setIrqs-keeps, itsInit-keeps, itsReset-keeps, fresh-good}
-use Rattle.kept.proofs.Bases.{setGroup0-keeps, setItsGroup0-keeps}
-use Rattle.kept.proofs.Init.{vgicInit-keeps}
-use Rattle.irqkept.proofs.Calls.{irqSet-keeps, irqClear-keeps, irqLine-keeps, irqTrigger-keeps, setGroup1-keeps, setGroup5-keeps, setGroup7-keeps}
-use Rattle.calls.specs.declared.Change.{Change}
-use Rattle.calls.specs.declared.Change.the-variants.{AddVcpu, Start, Stop, VgicSet, ItsSet, SetPending, ClearPending, Activate, Line, Trigger}
-use Rattle.calls.specs.declared.Command.{Command}
-use Rattle.calls.specs.declared.Command.the-variants.{Place, MapDevice, UnmapDevice, MapCollection, UnmapCollection, MapEvent, Discard, Move, Reset}
-use Rattle.calls.specs.Groups.{setGroup4, vgicSet, setItsGroup4, itsSet}
-use Rattle.calls.specs.Steps.{changeStep}
-use Rattle.calls.specs.Commands.{BoxResult, itsInitialised, ready, onMapping, placedAt, place, reset, commandStep, memoryFault}
-use Rattle.calls.specs.Sound.{sound, Sound}
-use Rattle.calls.specs.Call.{Reply, changes, commands, setUp, valueOf, restores, restoredTo}
-use Rattle.claims.specs.Step.{Call, step, stateLen, vcpusStart, vcpusStop, setup, vcpuAdd, redistBase, vgicSet as setVgic, itsSet as setIts, vgicGet, itsGet, irqPending, irqSetPending, irqClearPending, irqActivate, irqLine, irqTrigger, itsPlace, itsMapEvent, itsMapDevice, itsMove, itsMapCollection, itsDiscard, itsLookup, itsUnmapDevice, itsUnmapCollection, itsSave, itsRestore}
-use Rattle.claims.specs.Claims.{Passed}
-use Rattle.claims.proofs.Still.{change-still}
-use Rattle.claims.proofs.Stored.{says, stored-sound, mapped-sound, box-sound, fresh-sound}
+use Rattle.savedlaws.proofs.Writes.{Holds}
+use Rattle.savedlaws.proofs.Saved.{saved-length, saved-outside, saved-devices, saved-collections, saved-itts}
+use Rattle.kept.proofs.Choice.{choose-by}
+use Rattle.state.specs.Sound.{sound, Sound}
+use Rattle.calls.specs.Commands.{memoryFault}
+use Rattle.calls.specs.Call.{Reply, refused, guarded, setUp, saves, restores}
+use Rattle.step.specs.Step.{step, setup, itsSave, itsRestore}
+use Rattle.claims.specs.Demand2.{Demand2}
+use Rattle.claims.specs.Demand3.{Accepted, Ready}
+use Rattle.claims.proofs.Stored.{says}
+use Rattle.claims.proofs.Stays.{setup-sound, sound-stays, is-open}
+use Rattle.claims.proofs.Apart.{bank-apart}
+use Rattle.claims.proofs.Anchors.{setup-fresh, inits, runs, looks, resets}
+use Rattle.claims.proofs.Demand3.{unrefused, no-refusal, saves-is, comes-to, taken-guest}
 
--- the attributes of a group keep a good machine good
-vgic-keeps : (group attribute width value : ℕ) → value < 2 ^ 64 → (width ≡ 4 → value < 2 ^ 32) → Keeps (vgicSet group attribute width value)
-unfolding vgicSet setGroup4
-vgic-keeps group a w v h k m g =
-    chosen Stays (eqb group 0) (setGroup0-keeps a w v h m g)
-    (chosen Stays (eqb group 1) (setGroup1-keeps a w v k m g)
-    (chosen Stays (eqb group 3) (setIrqs-keeps a w v m g)
-    (chosen Stays (eqb group 4) (chosen Stays (eqb a 0) (chosen Stays (eqb w 0) (vgicInit-keeps m g) g) g)
-    (chosen Stays (eqb group 5) (setGroup5-keeps a w v k m g)
-    (chosen Stays (eqb group 7) (setGroup7-keeps a w v k m g) g)))))
-
-its-keeps : (group attribute width value : ℕ) → value < 2 ^ 64 → Keeps (itsSet group attribute width value)
-unfolding itsSet setItsGroup4
-its-keeps group a w v h m g =
-    chosen Stays (eqb group 0) (setItsGroup0-keeps a w v h m g)
-    (chosen Stays (eqb group 4)
-    (chosen Stays (eqb a 0) (chosen Stays (eqb w 0) (itsInit-keeps m g) g)
-    (chosen Stays (eqb a 1 || eqb a 2) g g))
-    g)
-
--- the number of a lent value
-value-small : (v : List ℕ) → Bytes v → valueOf v < 2 ^ 64
-unfolding valueOf
-value-small v b = by-length (eqb (length v) 4) (eqb (length v) 8) refl refl
+-- set-up, where accepted, makes sound bytes of any bytes
+pub setup-makes : (width start len : ℕ) (s v : List ℕ) → Bytes s → Accepted (step (setup width start len) s v)
+    → Sound (step (setup width start len) s v .state)
+unfolding setUp listed
+setup-makes width start len s v b =
+    choose-by Made (eqb (length s) size)
+    (λ l. choose-by Made (memoryOk (record { width = width; start = start; length = len }))
+    (λ h _. setup-sound width start len s (eqb-true (length s) size l) b h)
+    (λ _ a. absurd (unrefused 22 refl (sym a))))
+    (λ _ a. absurd (unrefused 14 refl (sym a)))
   where
-    by-length : (p q : Bool) → eqb (length v) 4 ≡ p → eqb (length v) 8 ≡ q → choose (p || q) (le v) 0 < 2 ^ 64
-    by-length true q e f =
-        let l = eqb-true (length v) 4 e in
-        lt-of-lt-of-le (le-bound 4 v b (omega arith)) (lit≤ tt)
-    by-length false true e f = let l = eqb-true (length v) 8 f in le-bound 8 v b (omega arith)
-    by-length false false e f = lit< tt
+    Made : Reply → Type 0
+    Made r = r .answer ≡ done 0 → Sound (r .lent)
 
-value-four : (v : List ℕ) → Bytes v → length v ≡ 4 → valueOf v < 2 ^ 32
-unfolding valueOf
-value-four v b l = rw (borrow.Author.Tests.eq-eqb (length v) 4 l) (le-bound 4 v b (omega arith))
-
-abbrev Left : Reply → Type 0
-Left r = Sound (r .lent)
-
--- a changing call
-change-sound : (c : Change) (s : List ℕ) → Keeps (changeStep c) → Sound s → Sound (changes c s .lent)
-unfolding changes
-change-sound c s k h =
-    let p = says s h in
-    let m = decode s in
-    let t = change-still m c in
-    chosen Left (eqb (length s) size)
-    (chosen Left (sound s)
-    (chosen Left (eqb (changeStep c m .errno) 0)
-    (stored-sound (changeStep c m .next) s (h .long) (k m (p .good)) (h .bytes) (p .mapCounts)
-    (machine-keeps m (changeStep c m .next) (decodeMap s) (t .memory) (t .tables) (t .vcpus) (p .mapped)))
-    h)
-    h)
-    h
-
--- The commands: a good machine and a mapping that keeps its rules.
-
-record BoxGood (r : BoxResult) : Type 0 where
-  good : Good (r .next .machine)
-  mapped : mapRules (r .next .machine) (r .next .mapped) ≡ true
-
--- a placed table lies in memory
-table-words : (m : Machine) (t : Table) → rules m ≡ true → t .set ≡ 1 → TableParts (m .memory) t → TableWords t
-unfolding inside
-table-words m t r e p =
-    let q = sound-memory m r .end in
-    let l = sound-limit m r in
-    let a = memoryArea (m .memory) in
-    let b = tableArea t in
-    let w = leb-true (endOf b) (endOf a) (and-right (leb (a .start) (b .start)) (leb (endOf b) (endOf a)) (p .within e)) in
-    record { set = omega arith; start = omega arith; pages = omega (arith, p .most) }
-
-module _ (m : Machine) (k : Mapped) (g : Good m) (e : mapRules m k ≡ true) where
-  stay : (n : ℕ) → BoxGood (record { errno = n; next = record { machine = m; mapped = k } })
-  stay n = record { good = g; mapped = e }
-
-  mapping-good : (f : Mapped → MapResult) → rows.Keeps m f → BoxGood (onMapping (f k) m k)
-  unfolding onMapping
-  mapping-good f h =
-      choose-by BoxGood (ready m)
-      (λ q. record { good = g; mapped = h k (g .rules) e (and-right (itsInitialised m) (isPlaced m) q) })
-      (λ _. stay 6)
-
-  place-good : (ds dp cs cp : ℕ) → BoxGood (place ds dp cs cp m k)
-  unfolding place
-  place-good ds dp cs cp =
-      let d = placedAt ds dp in
-      let c = placedAt cs cp in
-      let next = withTables (record { devices = d; collections = c }) m in
-      choose-by BoxGood (itsInitialised m)
-      (λ i. choose-by BoxGood (eqb (placeFault d c m k) 0)
-      (λ q.
-      let z = eqb-true (placeFault d c m k) 0 q in
-      let o = eqb-true (m .control .itsinit) 1 i in
-      let r = place-rules d c m k z refl refl (g .rules) o in
-      let w = g .words in
-      record {
-        good = record {
-          words = record {
-            memory = w .memory;
-            control = w .control;
-            frames = w .frames;
-            regions = w .regions;
-            vcpus = w .vcpus;
-            shared = w .shared;
-            tables = record { devices = table-words next d r refl (sound-devices next r); collections = table-words next c r refl (sound-collections next r) };
-          };
-          rules = r;
-        };
-        mapped = place-keeps d c m k z refl refl (g .rules) o;
-      })
-      (λ _. stay _))
-      (λ _. stay 6)
-
-  unplaced-good : itsInitialised m ≡ true → isRunning m ≡ false → Good (withTables noTables m)
-  unfolding itsReset
-  unplaced-good i r = rw (i, r) at (itsReset-keeps m g)
-
-  reset-good : (width : ℕ) → BoxGood (reset width m k)
-  unfolding reset
-  reset-good width =
-      chosen BoxGood (eqb width 0)
-      (choose-by BoxGood (itsInitialised m)
-      (λ i. choose-by BoxGood (isRunning m) (λ _. stay 16) (λ r. record { good = unplaced-good i r; mapped = unplace-keeps m }))
-      (λ _. stay 6))
-      (stay 14)
-
-  command-good : (c : Command) → BoxGood (commandStep c m k)
-  command-good (Place ds dp cs cp) = place-good ds dp cs cp
-  command-good (MapDevice id itt bits) = mapping-good (mapDevice id itt bits m) (mapDevice-keeps id itt bits m)
-  command-good (UnmapDevice id) = mapping-good (unmapDevice id) (unmapDevice-keeps id m)
-  command-good (MapCollection icid pe) = mapping-good (mapCollection icid pe m) (mapCollection-keeps icid pe m)
-  command-good (UnmapCollection icid) = mapping-good (unmapCollection icid) (unmapCollection-keeps icid m)
-  command-good (MapEvent device event lpi icid) = mapping-good (mapEvent device event lpi icid) (mapEvent-keeps device event lpi icid m)
-  command-good (Discard device event) = mapping-good (discard device event) (discard-keeps device event m)
-  command-good (Move device event icid) = mapping-good (move device event icid) (move-keeps device event icid m)
-  command-good (Reset width) = reset-good width
-
-command-sound : (c : Command) (s : List ℕ) → Sound s → Sound (commands c s .lent)
-unfolding commands
-command-sound c s h =
-    let p = says s h in
-    let r = commandStep c (decode s) (decodeMap s) in
-    let g = command-good (decode s) (decodeMap s) (p .good) (p .mapped) c in
-    chosen Left (eqb (length s) size)
-    (chosen Left (sound s)
-    (chosen Left (eqb (r .errno) 0) (box-sound (r .next .machine) (r .next .mapped) s (h .bytes) (h .long) (g .good) (g .mapped)) h)
-    h)
-    h
-
--- Restore.
-
--- no fault of the memory that is lent: its length is the set one, and the tables are placed
-pub record Open (len : ℕ) (m : Machine) : Type 0 where
-  pub size : len ≡ m .memory .length
-  pub placed : isPlaced m ≡ true
-
-pub is-open : (len : ℕ) (m : Machine) → memoryFault len m ≡ 0 → Open len m
-unfolding memoryFault
-is-open len m =
-    choose-by P (eqb len (m .memory .length)) (λ l.
-    choose-by P (ready m) (λ r _. record { size = eqb-true len (m .memory .length) l; placed = and-right (itsInitialised m) (isPlaced m) r })
-    (λ _ z. absurd (omega arith)))
-    (λ _ z. absurd (omega arith))
-  where
-    P : ℕ → Type 0
-    P e = e ≡ 0 → Open len m
-
-restored-sound : (s mem : List ℕ) → Sound s → Open (length mem) (decode s) → (o : Out) → restored (decode s) mem ≡ o → Sound (restoredTo s o .lent)
-restored-sound s mem h p (fault e) q = h
-restored-sound s mem h p (found k) q =
-    let a = says s h in
-    mapped-sound k s (h .long) (a .counts) (a .good .rules) (restored-ok (decode s) mem (a .good .rules) (p .placed) (p .size) k q) (h .bytes)
-
-pub restore-sound : (s mem : List ℕ) → Sound s → Sound (restores s mem .lent)
-unfolding restores
-restore-sound s mem h =
+-- where a save or a restore is accepted, the box was ready for it
+ready-where : (s mem lent : List ℕ) (o : Reply) → Bytes s
+    → guarded (refused lent) (choose (eqb (memoryFault (length mem) (decode s)) 0) o (refused lent (memoryFault (length mem) (decode s)))) s .answer ≡ done 0
+    → Ready s mem
+unfolding listed
+ready-where s mem lent o b =
     let e = memoryFault (length mem) (decode s) in
-    chosen Left (eqb (length s) size)
-    (chosen Left (sound s)
-    (choose-by Left (eqb e 0)
-    (λ q. restored-sound s mem h (is-open (length mem) (decode s) (eqb-true e 0 q)) (restored (decode s) mem) refl)
-    (λ _. h))
-    h)
-    h
+    choose-by Was (eqb (length s) size)
+    (λ l. choose-by Was (sound s)
+    (λ h. choose-by Was (eqb e 0)
+    (λ z _. record { sound = record { bytes = b; long = eqb-true (length s) size l; rules = h }; opened = is-open s mem (eqb-true e 0 z) })
+    (λ z a. absurd (eqb-false e 0 z (no-refusal e a))))
+    (λ _ a. absurd (unrefused 22 refl (sym a))))
+    (λ _ a. absurd (unrefused 14 refl (sym a)))
+  where
+    Was : Reply → Type 0
+    Was r = r .answer ≡ done 0 → Ready s mem
 
--- Set-up: any bytes of the right length, with good numbers.
+saved-ready : (s mem : List ℕ) → Bytes s → Accepted (step itsSave s mem) → Ready s mem
+unfolding saves
+saved-ready s mem = ready-where s mem mem _
 
-pub setup-sound : (width start len : ℕ) (s : List ℕ) → length s ≡ size → Bytes s → memoryOk (record { width = width; start = start; length = len }) ≡ true
-    → Sound (stored (fresh width start len) (storedMap empty s))
-setup-sound width start len s l b h =
-    let p = memory-parts (record { width = width; start = start; length = len }) h in
-    let e = p .end in
-    let n = p .narrow in
-    let m = p .most in
-    let t : 2 ^ width ≤ 2 ^ 52 = pow-mono n in
-    let w : width < 2 ^ 64 = omega arith in
-    let a : start < 2 ^ 64 = omega arith in
-    let z : len < 2 ^ 64 = omega arith in
-    fresh-sound (fresh width start len) s b l (fresh-good width start len w a z h)
+restored-ready : (s mem : List ℕ) → Bytes s → Accepted (step itsRestore s mem) → Ready s mem
+unfolding restores
+restored-ready s mem = ready-where s mem s _
 
-set-up : (width start len : ℕ) (s : List ℕ) → Sound s → Sound (setUp width start len s .lent)
-unfolding setUp
-set-up width start len s h =
-    chosen Left (eqb (length s) size)
-    (choose-by Left (memoryOk (record { width = width; start = start; length = len }))
-    (λ q. setup-sound width start len s (h .long) (h .bytes) q)
-    (λ _. h))
-    h
+module _ (s mem : List ℕ) (h : Ready s mem) where
+  -- a save leaves the state, and of memory what the definition says
+  pub save-state : step itsSave s mem .state ≡ s
+  save-state = refl
 
--- Every public call on sound bytes leaves sound ones. The numbers are as C passes them, and the lent value is bytes.
-pub sound-stays : (c : Call) (s v : List ℕ) → Passed c → Bytes v → Sound s → Sound (step c s v .state)
-sound-stays stateLen s v p b h = h
-sound-stays (setup width start len) s v p b h = set-up width start len s h
-sound-stays (vcpuAdd a) s v p b h = change-sound (AddVcpu a) s (addVcpu-keeps a p) h
-sound-stays vcpusStart s v p b h = change-sound Start s (setRunning-keeps 1 (omega arith)) h
-sound-stays vcpusStop s v p b h = change-sound Stop s (setRunning-keeps 0 (omega arith)) h
-sound-stays (setVgic g a) s v p b h =
-    change-sound (VgicSet g a (length v) (valueOf v)) s (vgic-keeps g a (length v) (valueOf v) (value-small v b) (value-four v b)) h
-sound-stays (setIts g a) s v p b h =
-    chosen Left (eqb g 4 && eqb a 4) (command-sound (Reset (length v)) s h)
-    (change-sound (ItsSet g a (length v) (valueOf v)) s (its-keeps g a (length v) (valueOf v) (value-small v b)) h)
-sound-stays (vgicGet g a) s v p b h = h
-sound-stays (itsGet g a) s v p b h = h
-sound-stays (redistBase k) s v p b h = h
-sound-stays (irqPending k i) s v p b h = h
-sound-stays (irqSetPending k i) s v p b h = change-sound (SetPending k i) s (irqSet-keeps k i) h
-sound-stays (irqClearPending k i) s v p b h = change-sound (ClearPending k i) s (irqClear-keeps k i) h
-sound-stays (irqActivate k i) s v p b h = change-sound (Activate k i) s (irqClear-keeps k i) h
-sound-stays (irqLine k i l) s v p b h = change-sound (Line k i l) s (irqLine-keeps k i l) h
-sound-stays (irqTrigger k i w) s v p b h = change-sound (Trigger k i w) s (irqTrigger-keeps k i w p) h
-sound-stays (itsPlace ds dp cs cp) s v p b h = command-sound (Place ds dp cs cp) s h
-sound-stays (itsMapDevice id itt bits) s v p b h = command-sound (MapDevice id itt bits) s h
-sound-stays (itsUnmapDevice id) s v p b h = command-sound (UnmapDevice id) s h
-sound-stays (itsMapCollection icid pe) s v p b h = command-sound (MapCollection icid pe) s h
-sound-stays (itsUnmapCollection icid) s v p b h = command-sound (UnmapCollection icid) s h
-sound-stays (itsMapEvent device event lpi icid) s v p b h = command-sound (MapEvent device event lpi icid) s h
-sound-stays (itsDiscard device event) s v p b h = command-sound (Discard device event) s h
-sound-stays (itsMove device event icid) s v p b h = command-sound (Move device event icid) s h
-sound-stays (itsLookup device event) s v p b h = h
-sound-stays itsSave s v p b h = h
-sound-stays itsRestore s v p b h = restore-sound s v h
+  pub save-memory : step itsSave s mem .lent ≡ savedMemory (decode s) (decodeMap s) mem
+  save-memory = ap (λ (r : Reply). r .lent) (saves-is s mem h)
+
+  pub save-length : length (step itsSave s mem .lent) ≡ length mem
+  save-length =
+      let p = says s (h .sound) in
+      ap length save-memory ∙ saved-length (decode s) (decodeMap s) mem (p .good .rules) (h .opened .placed) (p .mapped) (h .opened .size)
+
+  -- every byte outside the two tables and the mapped devices' ITTs is as before
+  pub save-outside : (i : ℕ) → i < length mem
+      → All (λ a. Holds a (decode s .memory .start + i) → ⊥) (tableAreas (decode s) (decodeMap s .devices))
+      → getD (step itsSave s mem .lent) i 0 ≡ getD mem i 0
+  save-outside i l n =
+      let p = says s (h .sound) in
+      ap (λ (t : List ℕ). getD t i 0) save-memory
+      ∙ saved-outside (decode s) (decodeMap s) mem (p .good .rules) (h .opened .placed) (p .mapped) (h .opened .size) i l n
+
+  -- each table, and the ITT of each mapped device, holds its entries
+  pub save-devices : deviceTable (decode s) (step itsSave s mem .lent) ≡ tableOf (savedDevice (decodeMap s .devices)) (deviceEntries (decode s))
+  save-devices =
+      let p = says s (h .sound) in
+      rw save-memory (saved-devices (decode s) (decodeMap s) mem (p .good .rules) (h .opened .placed) (p .mapped) (h .opened .size))
+
+  pub save-collections : collectionTable (decode s) (step itsSave s mem .lent)
+      ≡ tableOf (savedCollection (decodeMap s .collections)) (512 * decode s .tables .collections .pages)
+  save-collections =
+      let p = says s (h .sound) in
+      rw save-memory (saved-collections (decode s) (decodeMap s) mem (p .good .rules) (h .opened .placed) (p .mapped) (h .opened .size))
+
+  pub save-itts : All (λ (d : Device). ittTable (decode s) (step itsSave s mem .lent) d
+      ≡ tableOf (savedEvent (eventsOf (d .id) (decodeMap s .events))) (2 ^ d .bits)) (decodeMap s .devices)
+  save-itts =
+      let p = says s (h .sound) in
+      rw save-memory (saved-itts (decode s) (decodeMap s) mem (p .good .rules) (h .opened .placed) (p .mapped) (h .opened .size))
+
+  -- a restore changes the mapping alone, and no byte of memory
+  pub restore-memory : step itsRestore s mem .lent ≡ mem
+  restore-memory = refl
+
+  pub restore-guest : decode (step itsRestore s mem .state) ≡ decode s
+  restore-guest = by (restored (decode s) mem) refl
+    where
+      by : (o : Out) → restored (decode s) mem ≡ o → decode (step itsRestore s mem .state) ≡ decode s
+      by (fault e) q = ap (λ (r : Reply). decode (r .lent)) (comes-to s mem h (fault e) q)
+      by (found k) q = taken-guest s mem h k q
+
+none-holds : (x : ℕ) (l : List Area) → All (λ (a : Area). a .start ≤ x → x < endOf a → ⊥) l → All (λ (a : Area). Holds a x → ⊥) l
+none-holds x [] none = none
+none-holds x (a ∷ l) (more p q) = more (λ h. p (h .low) (h .high)) (none-holds x l q)
+
+-- Demand 2 whole, over every public call
+pub demand2 : Demand2
+demand2 = record {
+  stays = sound-stays;
+  makes = setup-makes;
+  saves = λ s mem b a. let h = saved-ready s mem b a in record {
+    state = save-state s mem h;
+    memory = save-memory s mem h;
+    size = save-length s mem h;
+    devices = save-devices s mem h;
+    collections = save-collections s mem h;
+    itts = save-itts s mem h;
+    outside = λ i l o. save-outside s mem h i l (none-holds (decode s .memory .start + i) (tableAreas (decode s) (decodeMap s .devices)) o);
+  };
+  restores = λ s mem b a. let h = restored-ready s mem b a in record { memory = restore-memory s mem h; guest = restore-guest s mem h };
+  apart = bank-apart;
+  fresh = setup-fresh;
+  inits = inits;
+  runs = runs;
+  looks = looks;
+  resets = resets;
+}

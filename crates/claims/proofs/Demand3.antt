@@ -24,14 +24,14 @@ use Rattle.savedlaws.proofs.Member.{all-weaker}
 use Rattle.savedlaws.proofs.Local.{Alike, SameIn}
 use Rattle.savedlaws.proofs.Again.{saved-again}
 use Rattle.kept.proofs.Choice.{never, and-both}
-use Rattle.calls.specs.Sound.{sound, Sound}
+use Rattle.state.specs.Sound.{sound, Sound}
 use Rattle.calls.specs.Commands.{ready, lookupStep, memoryFault}
 use Rattle.calls.specs.Call.{Reply, answered, looks, saves, restoredTo, restores}
-use Rattle.claims.specs.Step.{step, itsSave, itsRestore}
+use Rattle.step.specs.Step.{step, itsSave, itsRestore}
 use Rattle.claims.specs.Demand3.{Accepted, Refused, Ready, Exact, Turn, Given, run, SamePlaces, SavedStand, GivesBack, Demand3}
 use Rattle.claims.proofs.Stored.{says, mapped-is, mapped-guest}
 use Rattle.claims.proofs.Demand1.{known-listed}
-use Rattle.claims.proofs.Demand2.{sound-stays, restore-sound}
+use Rattle.claims.proofs.Stays.{sound-stays, restore-sound}
 
 -- success is no listed refusal
 below : ℤ → ℕ
@@ -42,6 +42,12 @@ pub unrefused : (e : ℕ) → listed e ≡ true → done 0 ≡ refusal e → ⊥
 unfolding listed below
 unrefused zero l q = never l
 unrefused (suc n) l q = let z : _≡_ {A = ℕ} 0 1 = ap below q in omega arith
+
+-- only the errno 0 is no refusal
+pub no-refusal : (e : ℕ) → refusal e ≡ done 0 → e ≡ 0
+unfolding below
+no-refusal zero q = refl
+no-refusal (suc n) q = let z : _≡_ {A = ℕ} 1 0 = ap below q in omega arith
 
 -- a lookup of a sound state that is ready for commands
 looks-is : (s : List ℕ) → Sound s → ready (decode s) ≡ true → (device event : ℕ) → looks device event s ≡ lookup device event (decodeMap s)

@@ -1,6 +1,10 @@
 pub mod Demand1
 pub mod Still
 pub mod Stored
-pub mod Demand2
+pub mod On
+pub mod Stays
 pub mod Demand3
-pub mod Effects
+pub mod Apart
+pub mod Anchors
+pub mod Demand2
+pub mod Uses

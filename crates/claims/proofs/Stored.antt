@@ -22,8 +22,9 @@ use Rattle.maplayout.proofs.Round.{MapRoom, length-storedMap, guest-counts-kept
 use Rattle.mapkept.proofs.Placing as placing
 use Rattle.mapkept.proofs.Words.{mapping-words}
 use Rattle.kept.specs.Good.{Good}
-use Rattle.kept.proofs.Choice.{and-both, and-left, and-right}
-use Rattle.calls.specs.Sound.{sound, Sound}
+use Rattle.kept.proofs.Choice.{and-both}
+use Rattle.state.proofs.Meaning.{sound-says}
+use Rattle.state.specs.Sound.{sound, Sound}
 
 -- the rules bound the rows of each table
 pub room : (m : Machine) → rules m ≡ true → Room m
@@ -38,7 +39,7 @@ map-room m k h e =
     record { collections = s .fewCollections; devices = s .fewDevices; events = s .fewEvents }
 
 -- the counts that bytes hold are the numbers of rows of the machine that they stand for
-counts-of : (t : List ℕ) (m : Machine) → decode t ≡ m → Room m → countsOk t ≡ true
+pub counts-of : (t : List ℕ) (m : Machine) → decode t ≡ m → Room m → countsOk t ≡ true
 unfolding countsOk decode
 counts-of t m e r =
     let lr = length-rowsOf regionOf 16 (leAt t 168 8) (drop 184 t) in
@@ -75,15 +76,13 @@ pub record Says (s : List ℕ) : Type 0 where
   pub mapped : mapRules (decode s) (decodeMap s) ≡ true
 
 pub says : (s : List ℕ) → Sound s → Says s
-unfolding sound
 says s h =
-    let a = and-right (countsOk s) _ (h .rules) in
-    let b = and-right (mapCountsOk s) _ a in
+    let p = sound-says s (h .rules) in
     record {
-      counts = and-left (countsOk s) _ (h .rules);
-      mapCounts = and-left (mapCountsOk s) _ a;
-      good = record { words = decode-words s (h .bytes); rules = and-left (rules (decode s)) _ b };
-      mapped = and-right (rules (decode s)) _ b;
+      counts = p .counts;
+      mapCounts = p .mapCounts;
+      good = record { words = decode-words s (h .bytes); rules = p .rules };
+      mapped = p .mapped;
     }
 
 -- a machine stored over bytes whose mapping keeps its rules
@@ -140,11 +139,21 @@ box-sound m k s b l g e =
     (bytes-stored m s b)
 
 -- a machine over bytes that got no mapping
-pub fresh-sound : (m : Machine) (s : List ℕ) → Bytes s → length s ≡ size → Good m → Sound (stored m (storedMap empty s))
-fresh-sound m s b l g =
-    let e = placing.empty-ok m (g .rules) in
-    let r = map-room m empty (g .rules) e in
-    let d = decode-storedMap empty s l r (mapping-words m empty (g .rules) e) in
-    stored-sound m (storedMap empty s) (length-storedMap empty s l r) g (bytes-storedMap empty s b)
-    (map-counts-of (storedMap empty s) empty d r)
-    (ap (mapRules m) d ∙ e)
+module _ (m : Machine) (s : List ℕ) (l : length s ≡ size) (g : Good m) where
+  empty-room : MapRoom empty
+  empty-room = map-room m empty (g .rules) (placing.empty-ok m (g .rules))
+
+  empty-is : decodeMap (storedMap empty s) ≡ empty
+  empty-is = decode-storedMap empty s l empty-room (mapping-words m empty (g .rules) (placing.empty-ok m (g .rules)))
+
+  pub fresh-is : decode (stored m (storedMap empty s)) ≡ m
+  fresh-is = stored-is m (storedMap empty s) (length-storedMap empty s l empty-room) g
+
+  pub fresh-map : decodeMap (stored m (storedMap empty s)) ≡ empty
+  fresh-map = stored-map m (storedMap empty s) (length-storedMap empty s l empty-room) g ∙ empty-is
+
+  pub fresh-sound : Bytes s → Sound (stored m (storedMap empty s))
+  fresh-sound b =
+      stored-sound m (storedMap empty s) (length-storedMap empty s l empty-room) g (bytes-storedMap empty s b)
+      (map-counts-of (storedMap empty s) empty empty-is empty-room)
+      (ap (mapRules m) empty-is ∙ placing.empty-ok m (g .rules))

@@ -18,10 +18,10 @@ use Rattle.mapping.specs.MapRules.{isPlaced}
 use Rattle.layout.specs.Layout.{decode}
 use Rattle.maplayout.specs.MapLayout.{decodeMap}
 use Rattle.described.specs.Described.{Described}
-use Rattle.calls.specs.Sound.{Sound}
+use Rattle.state.specs.Sound.{Sound}
 use Rattle.calls.specs.Commands.{itsInitialised}
 use Rattle.calls.specs.Call.{answered}
-use Rattle.claims.specs.Step.{Call, After, step, itsLookup, itsSave, itsRestore}
+use Rattle.step.specs.Step.{Call, After, step, itsLookup, itsSave, itsRestore}
 use Rattle.claims.specs.Claims.{Passed}
 
 abbrev pub Accepted : After → Type 0

@@ -1,4 +1,4 @@
-pub mod Step
 pub mod Claims
 pub mod Demand3
+pub mod Anchors
 pub mod Demand2

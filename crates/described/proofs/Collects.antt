@@ -16,16 +16,17 @@ use Rattle.guest.specs.Machine.{Machine}
 use Rattle.mapping.specs.declared.Collection.{Collection}
 use Rattle.mapping.specs.Mapped.{Mapped, collectionKey, empty, noCollection, placeOf, insertedAt, rising}
 use Rattle.mapping.specs.Commands.{hasCollection, withCollections}
+use Rattle.mapping.specs.Meaning.{CollectionRules}
 use Rattle.chains.proofs.Scan.{lt-or-ge}
 use Rattle.chains.proofs.Way.{choose-cases}
 use Rattle.tables.specs.Bytes.{entryAt}
 use Rattle.tables.specs.Bytes.{collectionAt}
 use Rattle.described.specs.Described.{Collections}
 use Rattle.tables.specs.Restored.{found, visitCollection, readCollections}
-use Rattle.described.proofs.Member.{In, all-in, all-weaker, in-at, at-in, in-inserted, inserted-in, all-inserted}
-use Rattle.described.proofs.Rise.{isKey, no-key, key-none, rising-nil, rising-same, rising-inserted}
+use Rattle.lists.proofs.Member.{In, all-in, all-weaker, in-at, at-in}
+use Rattle.mapping.proofs.Edits.{in-inserted, inserted-in, all-inserted}
+use Rattle.mapping.proofs.Rise.{isKey, no-key, key-none, rising-nil, rising-same, rising-inserted}
 use Rattle.described.proofs.Walks.{no-fault, then-says}
-use Rattle.described.proofs.Parts.{CollectionParts}
 
 -- rows with a row put in at its place
 abbrev put : Collection → List Collection → List Collection
@@ -73,7 +74,7 @@ module _ (m : Machine) (t : List ℕ) where
     pub listed : (i : ℕ) → i < n → In (collectionAt t i) cs
     pub named : All (λ c. (i : ℕ) × (i < n) × (collectionAt t i ≡ c)) cs
     pub rise : rising collectionKey cs ≡ true
-    pub parts : All (CollectionParts m) cs
+    pub parts : All (CollectionRules m) cs
 
   listed-none : Listed 0 []
   listed-none = record {
@@ -142,31 +143,8 @@ module _ (m : Machine) (t : List ℕ) where
       (λ a. let e = a .1 in stops (i + suc left) i k h l (omega arith) (λ g. a .0) (cc))
       (choose-cases (isCollection (entryAt t i)) p)
 
-  -- what is read is described, and obeys the rules
-  pub record Gathered (h : Mapped) : Type 0 where
-    pub described : Collections t (h .collections)
-    pub rows : Listed (length (h .collections)) (h .collections)
-    pub is : h ≡ withCollections (h .collections) empty
-
-  pub gathered : (h : Mapped) → readCollections m t (length t / 8) 0 empty ≡ found h → Gathered h
-  gathered h p =
-      let r = read-says (length t / 8) 0 empty h listed-none p in
-      let l = r .rows in
-      record {
-        described = record {
-          inside = omega (arith, r .inside);
-          valid = l .valid;
-          stop = λ g. r .stop (omega arith);
-          distinct = l .distinct;
-          listed = λ i g. at-in (h .collections) noCollection (l .listed i g);
-          named = l .named;
-        };
-        rows = l;
-        is = r .is;
-      }
-
   -- what is described is read
-  module _ (cs : List Collection) (d : Collections t cs) (rise : rising collectionKey cs ≡ true) (parts : All (CollectionParts m) cs) (few : length cs ≤ 16) where
+  module _ (cs : List Collection) (d : Collections t cs) (rise : rising collectionKey cs ≡ true) (parts : All (CollectionRules m) cs) (few : length cs ≤ 16) where
     in-rows : (i : ℕ) → i < length cs → In (collectionAt t i) cs
     in-rows i h = let j = d .listed i h in rw (j .2) at (in-at cs (j .0) noCollection (j .1))
 
@@ -208,3 +186,26 @@ module _ (m : Machine) (t : List ℕ) where
         (λ x i. let p = all-in (r .0) (l .named) i in rw (p .2) at (in-rows (p .0) (p .1)))
         (λ x i. let p = all-in cs (d .named) i in rw (p .2) at (l .listed (p .0) (p .1))) in
         rw e at (r .1)
+
+  -- what is read is described, and obeys the rules
+  pub record Gathered (h : Mapped) : Type 0 where
+    pub described : Collections t (h .collections)
+    pub rows : Listed (length (h .collections)) (h .collections)
+    pub is : h ≡ withCollections (h .collections) empty
+
+  pub gathered : (h : Mapped) → readCollections m t (length t / 8) 0 empty ≡ found h → Gathered h
+  gathered h p =
+      let r = read-says (length t / 8) 0 empty h listed-none p in
+      let l = r .rows in
+      record {
+        described = record {
+          inside = omega (arith, r .inside);
+          valid = l .valid;
+          stop = λ g. r .stop (omega arith);
+          distinct = l .distinct;
+          listed = λ i g. at-in (h .collections) noCollection (l .listed i g);
+          named = l .named;
+        };
+        rows = l;
+        is = r .is;
+      }

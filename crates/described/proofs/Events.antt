@@ -20,10 +20,11 @@ use Rattle.tables.specs.Bytes.{entryAt, eventSlots}
 use Rattle.tables.specs.Saved.{eventId}
 use Rattle.described.specs.Described.{EventFields, Itt}
 use Rattle.tables.specs.Restored.{found, eventAt, visitEvent, readEvents}
-use Rattle.described.proofs.Member.{all-in, all-of, all-map, map-all, length-map, map-back}
-use Rattle.described.proofs.Rise.{rising-map}
+use Rattle.lists.proofs.Member.{all-in, all-of, all-map, map-all, length-map, map-back}
+use Rattle.mapping.specs.Meaning.{Fit}
+use Rattle.mapping.proofs.Meaning.{fits, fit-collected}
+use Rattle.mapping.proofs.Rise.{rising-map}
 use Rattle.described.proofs.Walks.{no-fault, then-says, visits, walk-is, walk-says, chain-inside, chain-rise}
-use Rattle.described.proofs.Parts.{Fit}
 
 -- the events of one device, as its ITT describes them
 pub record Held (t : List ℕ) (id : ℕ) (cs : List Collection) (es : List Event) : Type 0 where
@@ -40,7 +41,7 @@ module _ (t : List ℕ) (id : ℕ) where
   unfolding visitEvent
   event-is i k f h =
       let e = eventAt t id i in
-      rw (le-leb 8192 (e .lpi) (f .low), le-leb (e .lpi) 65535 (f .high), f .icid, lt-leb 1024 (length (k .events)) h)
+      rw (le-leb 8192 (e .lpi) (f .low), le-leb (e .lpi) 65535 (f .high), fit-collected (k .collections) e f, lt-leb 1024 (length (k .events)) h)
 
   event-says : (i : ℕ) (k h : Mapped) → visitEvent t id i k ≡ found h
       → Fit (k .collections) (eventAt t id i) × (length (k .events) < 1024) × (h ≡ withEvents (k .events ++ (eventAt t id i ∷ [])) k)
@@ -51,7 +52,7 @@ module _ (t : List ℕ) (id : ℕ) where
       (λ c. no-fault (c .1))
       (λ c.
       let e = eventAt t id i in (
-        record { low = leb-true 8192 (e .lpi) (and-left _ _ (a .0)); high = leb-true (e .lpi) 65535 (and-right (leb 8192 (e .lpi)) _ (a .0)); icid = b .0 },
+        fits (k .collections) e (leb-true 8192 (e .lpi) (and-left _ _ (a .0))) (leb-true (e .lpi) 65535 (and-right (leb 8192 (e .lpi)) _ (a .0))) (b .0),
         leb-false 1024 (length (k .events)) (c .0),
         let q = c .1 in cc,
       ))

@@ -10,10 +10,11 @@ use Rattle.lists.proofs.All.{All, none, more, all-append}
 use Rattle.mapping.specs.declared.Device.{Device}
 use Rattle.mapping.specs.declared.Event.{Event}
 use Rattle.mapping.specs.Mapped.{deviceKey, eventKey, rising}
+use Rattle.mapping.specs.Meaning.{Owned}
 use Rattle.tables.specs.Saved.{isOf, eventsOf}
-use Rattle.described.proofs.Member.{In, member, nowhere, all-in, all-of, all-weaker, in-left, in-right, in-kept, all-kept, kept-pass}
-use Rattle.described.proofs.Rise.{Above, rising-nil, rising-above, rising-rest, rising-append, rising-kept, rising-same}
-use Rattle.described.proofs.Parts.{Owned}
+use Rattle.lists.proofs.Member.{In, member, nowhere, all-in, all-of, all-weaker, in-left, in-right}
+use Rattle.mapping.proofs.Edits.{in-kept, all-kept, kept-pass}
+use Rattle.mapping.proofs.Rise.{Above, rising-nil, rising-above, rising-rest, rising-append, rising-kept, rising-same}
 
 abbrev pub joined : List Event → List Device → List Event
 joined es [] = []

@@ -1,13 +1,10 @@
-pub mod Member
-pub mod Rise
 pub mod Walks
 pub mod Places
-pub mod Parts
 pub mod Collects
 pub mod Events
 pub mod Devices
-pub mod Sound
 pub mod Joined
 pub mod Complete
+pub mod Sound
 pub mod Faults
 pub mod Exact

@@ -20,7 +20,7 @@ use Rattle.mapping.specs.Mapped.{ittArea}
 use Rattle.mapping.specs.Commands.{deviceEntries, tableAreas}
 use Rattle.mapping.specs.MapRules.{isPlaced}
 use Rattle.tables.specs.Bytes.{areaBytes, deviceTable, ittTable, deviceSlots, eventSlots}
-use Rattle.described.proofs.Member.{map-append}
+use Rattle.lists.proofs.Member.{map-append}
 
 overlaps-sym : (a b : Area) → overlaps a b ≡ overlaps b a
 unfolding overlaps

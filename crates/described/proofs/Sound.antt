@@ -7,24 +7,28 @@ use mathlib.Core.List.{List, [], _∷_, _++_, map, append-nil, append-assoc}
 use lib.ListN.{length, length-append}
 use borrow.Author.Tests.{eq-eqb, ne-eqb}
 use Rattle.lists.proofs.All.{All, none, more, all-append}
+use Rattle.lists.proofs.Member.{here, all-in, all-of, all-weaker, in-left, in-right, map-append}
+use Rattle.lists.proofs.Pairs.{alone}
+use Rattle.areas.proofs.Laws.{inside-says, apart-says, apart-is}
 use Rattle.entries.proofs.Laws.{device-of-fits}
 use Rattle.guest.specs.Machine.{Machine}
-use Rattle.rules.specs.Rules.{rules}
+use Rattle.rules.specs.Rules.{memoryArea, rules}
 use Rattle.mapping.specs.declared.Device.{Device}
 use Rattle.mapping.specs.declared.Event.{Event}
-use Rattle.mapping.specs.Mapped.{Mapped, empty, deviceKey, eventKey, rising}
-use Rattle.mapping.specs.Commands.{deviceEntries, withCollections}
+use Rattle.mapping.specs.Mapped.{Mapped, empty, deviceKey, collectionKey, eventKey, rising, ittArea}
+use Rattle.mapping.specs.Commands.{deviceEntries, tableAreas, withCollections}
 use Rattle.mapping.specs.MapRules.{isPlaced}
+use Rattle.mapping.specs.Meaning.{DeviceRules, Owned, MappingRules}
+use Rattle.mapping.proofs.Edits.{kept-append, kept-whole, kept-none}
+use Rattle.mapping.proofs.Rise.{rises, risen, rising-one, rising-append}
+use Rattle.mapping.proofs.Meaning.{mapping-is, event-small}
 use Rattle.chains.specs.Slots.{Slots, Links}
 use Rattle.tables.specs.Bytes.{entryAt, deviceTable, collectionTable, ittTable, deviceSlots}
 use Rattle.tables.specs.Saved.{isOf, eventsOf}
 use Rattle.described.specs.Described.{Chain, DeviceFields, Itt, Described}
 use Rattle.tables.specs.Restored.{Out, found, andThen, deviceAt, readCollections, readDevices, restored}
-use Rattle.described.proofs.Member.{here, all-in, all-of, all-weaker, in-left, in-right, kept-append, kept-whole, kept-none, map-append}
-use Rattle.described.proofs.Rise.{rising-nil, rising-one, rising-append}
 use Rattle.described.proofs.Walks.{then-says, visits, walk-says}
 use Rattle.described.proofs.Places.{Ready, ready, tables-last}
-use Rattle.described.proofs.Parts.{DeviceParts, Owned, Ok, all-ok, event-small}
 use Rattle.described.proofs.Collects.{Gathered, gathered}
 use Rattle.described.proofs.Events.{held-inside, held-rise}
 use Rattle.described.proofs.Devices.{withDevice, Next, visit, device-out, device-pos, device-small}
@@ -32,7 +36,7 @@ use Rattle.described.proofs.Devices.{withDevice, Next, visit, device-ou
 module _ (m : Machine) (mem : List ℕ) (w : Ready m mem) where
   -- what is read so far; its IDs are below n
   record Part (n : ℕ) (k : Mapped) : Type 0 where
-    pub ok : Ok m k
+    pub ok : MappingRules m k
     pub below : All (λ d. d .id < n) (k .devices)
     pub fields : All (DeviceFields (deviceTable m mem)) (k .devices)
     pub itts : All (λ d. Itt (ittTable m mem d) (eventsOf (d .id) (k .events))) (k .devices)
@@ -57,7 +61,7 @@ module _ (m : Machine) (mem : List ℕ) (w : Ready m mem) where
         kept-append (isOf (d .id)) (k .events) es
         ∙ rw gone (kept-whole (isOf (d .id)) es (all-weaker (λ e s. eq-eqb (e .device) (d .id) s) es same))
 
-    parts : DeviceParts m d
+    parts : DeviceRules m d
     parts =
         let f = x .fields in
         let g = device-of-fits (entryAt (deviceTable m mem) (d .id)) in
@@ -65,11 +69,11 @@ module _ (m : Machine) (mem : List ℕ) (w : Ready m mem) where
         let b = g .page in
         let c = f .bits in
         let e = f .itt in
-        record { id = id; some = omega arith; most = x .bits; page = rw e at b; within = x .within }
+        record { id = id; some = omega arith; most = x .bits; page = rw e at b; within = inside-says (memoryArea (m .memory)) (ittArea d) (x .within) }
 
     rise : rising eventKey (k .events ++ es) ≡ true
     rise =
-        rising-append eventKey (k .events) es (p .ok .events-rise) (held-rise (ittTable m mem d) (d .id) (k .collections) es (x .held))
+        rising-append eventKey (k .events) es (risen eventKey (k .events) (p .ok .events-rise)) (held-rise (ittTable m mem d) (d .id) (k .collections) es (x .held))
         (all-of (k .events) (λ e i.
         let h : e .device < n = all-in (k .events) earlier i in
         let s : e .event < 65536 = event-small m k (p .ok) e (all-in (k .events) (p .ok .owned) i) in
@@ -89,12 +93,13 @@ module _ (m : Machine) (mem : List ℕ) (w : Ready m mem) where
             few-devices = omega (arith, length-append (k .devices) (d ∷ []), x .room);
             few-events = omega (arith, length-append (k .events) es, x .limit);
             collections-rise = o .collections-rise;
-            devices-rise = rising-append deviceKey (k .devices) (d ∷ []) (o .devices-rise) (rising-one deviceKey d)
-                (all-weaker (λ b h. let i : b .id < d .id = omega arith in more i none) (k .devices) (p .below));
-            events-rise = rise;
+            devices-rise = rises deviceKey (k .devices ++ (d ∷ []))
+                (rising-append deviceKey (k .devices) (d ∷ []) (risen deviceKey (k .devices) (o .devices-rise)) (rising-one deviceKey d)
+                (all-weaker (λ b h. let i : b .id < d .id = omega arith in more i none) (k .devices) (p .below)));
+            events-rise = rises eventKey (k .events ++ es) rise;
             collections = o .collections;
             devices = all-append (k .devices) (o .devices) (more parts none);
-            apart = tables-last m (k .devices) d (o .apart) (x .clear);
+            apart = apart-says (tableAreas m (k .devices ++ (d ∷ []))) (tables-last m (k .devices) d (apart-is (tableAreas m (k .devices)) (o .apart)) (x .clear));
             owned = all-append (k .events)
                 (all-weaker (λ e q. record { device = q .device; listed = in-left (d ∷ []) (q .listed); id = q .id; small = q .small }) (k .events) (o .owned)) owned;
             fit = all-append (k .events) (o .fit) (x .held .fit);
@@ -154,12 +159,12 @@ module _ (m : Machine) (mem : List ℕ) (w : Ready m mem) where
               few-collections = l .few;
               few-devices = omega arith;
               few-events = omega arith;
-              collections-rise = l .rise;
-              devices-rise = rising-nil deviceKey;
-              events-rise = rising-nil eventKey;
+              collections-rise = rises collectionKey (h .collections) (l .rise);
+              devices-rise = alone;
+              events-rise = alone;
               collections = l .parts;
               devices = none;
-              apart = w .apart;
+              apart = apart-says (tableAreas m []) (w .apart);
               owned = none;
               fit = none;
             };
@@ -189,7 +194,7 @@ module _ (m : Machine) (mem : List ℕ) (w : Ready m mem) where
         devices = rw e (c .1);
         fields = a .part .fields;
         itts = a .part .itts;
-        allowed = all-ok m k (a .part .ok);
+        allowed = mapping-is m k (a .part .ok);
       }
 
 -- a restore that is accepted reads what is described

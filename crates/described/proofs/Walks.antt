@@ -17,8 +17,8 @@ use Rattle.chains.proofs.Way.{choose-cases}
 use Rattle.chains.proofs.Chained.{path-is, path-says}
 use Rattle.described.specs.Described.{Chain}
 use Rattle.tables.specs.Restored.{Out, fault, found, andThen, run, walk}
-use Rattle.described.proofs.Member.{all-weaker}
-use Rattle.described.proofs.Rise.{rising-more, rising-nil}
+use Rattle.lists.proofs.Member.{all-weaker}
+use Rattle.mapping.proofs.Rise.{rising-more, rising-nil}
 
 pub no-fault : {B : Type 0} {e : ℕ} {k : Mapped} → fault e ≡ found k → B
 no-fault p = let z : _≡_ {A = ℕ} 0 1 = cc in absurd (omega arith)

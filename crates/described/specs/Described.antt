@@ -1,7 +1,7 @@
 -- "Described." When the bytes of memory describe a mapping; no word of how a restore goes about it.
-use Prim.Native.Nat.{ℕ, _/_, _*_, _≤_, _<_}
+use Prim.Native.Nat.{ℕ, _/_, _≤_, _<_}
 use mathlib.Core.Path.{_≡_}
-use mathlib.Core.Bool.{Bool, true, false}
+use mathlib.Core.Bool.{true, false}
 use mathlib.Core.List.{List, [], _∷_, map}
 use lib.ListN.{length, getD}
 use Rattle.lists.proofs.All.{All}

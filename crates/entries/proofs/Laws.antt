@@ -4,7 +4,7 @@ use mathlib.Core.Bool.{true, false, not}
 use Prim.Native.Nat.{ℕ, _+_, _-_, _*_, _/_, _^_, _<_}
 use native.Mathlib.Omega.{arith}
 use native.Mathlib.Nat.{mod-eq-of-lt}
-use borrow.Author.Tests.{eq-eqb, ne-eqb, eqb-true, eqb-false, not-true}
+use borrow.Author.Tests.{eq-eqb, ne-eqb, eqb-true}
 use Rattle.fields.specs.Field.{getField, putField}
 use Rattle.fields.proofs.Laws.{get-lt, get-put, get-above, get-below, put-keeps}
 use Rattle.entries.specs.declared.DeviceEntry.{DeviceEntry}
@@ -125,13 +125,3 @@ collection-word-of w h v =
 pub event-word-of : (w : ℕ) → w < 2 ^ 64 → eventWord (eventOf w) ≡ w
 unfolding eventOf eventWord
 event-word-of w h = packed-of 16 32 16 w ∙ mod-eq-of-lt h
-
--- bits [62:52] are written as zero
-pub collection-word-zero : (e : CollectionEntry) → getField (collectionWord e) 52 11 ≡ 0
-unfolding collectionWord
-collection-word-zero e = marked-high 16 36 11 (e .icid) (e .pe) 0 (omega arith)
-
--- a valid event names an LPI
-pub event-of-lpi : (w : ℕ) → isEvent w ≡ true → 0 < eventOf w .lpi
-unfolding isEvent eventOf
-event-of-lpi w v = let n = eqb-false (getField w 16 32) 0 (not-true _ v) in omega (arith, n)

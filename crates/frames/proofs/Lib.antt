@@ -4,3 +4,4 @@ pub mod Known
 pub mod Names
 pub mod Faults
 pub mod Locate
+pub mod Anchors

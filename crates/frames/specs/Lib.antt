@@ -1,3 +1,4 @@
 pub mod Vcpus
 pub mod Bases
 pub mod Init
+pub mod Needs

@@ -7,7 +7,7 @@ use lib.Dec.{leb, eqb}
 use Rattle.lists.specs.Rows.{choose}
 use Rattle.guest.specs.declared.Control.{Control}
 use Rattle.guest.specs.declared.Reading.{Reading}
-use Rattle.guest.specs.Machine.{Machine, Result, refuse, accept, initialised, isSet, isRunning, noVcpu, noBank, noTables, sharedCount, withControl, withVcpus, withShared, withTables}
+use Rattle.guest.specs.Machine.{Machine, Result, refuse, accept, initialised, isSet, noVcpu, noBank, sharedCount, withControl, withVcpus, withShared}
 use Rattle.rules.specs.Rules.{taken, irqsOk}
 
 -- "A VCPU is added with a 32-bit affinity: after INIT -16, affinity taken -22, a 65th -12."
@@ -86,12 +86,4 @@ unfoldable pub itsInit : Machine → Result
 itsInit m =
     choose (initialised m && isSet (m .frames .its))
     (accept (withControl (withItsInit (m .control)) m))
-    (refuse m 6)
-
--- "RESET (group 4, 4; running -16; tables need not be placed)": "tables not placed"; "-6 before" ITS INIT. The mapping's part stands
--- with the mapping.
-unfoldable pub itsReset : Machine → Result
-itsReset m =
-    choose (eqb (m .control .itsinit) 1)
-    (choose (isRunning m) (refuse m 16) (accept (withTables noTables m)))
     (refuse m 6)

@@ -4,8 +4,6 @@ use guest::Banks;
 use guest::Guest;
 use guest::Outcome;
 use guest::Reading;
-use guest::Table;
-use guest::Tables;
 use guest::Vcpu;
 use guest::Vcpus;
 ghost use mathlib.Core.Bool.{true};
@@ -15,7 +13,7 @@ ghost use Prim.Native.Nat.{_<_, _≤_};
 ghost use lib.ListN.{take, replicate};
 ghost use Rattle.guest.specs.Machine.{Does, view, noBank, sharedCount};
 ghost use Rattle.rules.specs.Rules.{Kept, irqsOk};
-ghost use Rattle.frames.specs.Vcpus.{addVcpu, setRunning, setIrqs, getIrqs, itsInit, itsReset};
+ghost use Rattle.frames.specs.Vcpus.{addVcpu, setRunning, setIrqs, getIrqs, itsInit};
 
 // The interrupt count's attribute and the bytes of its value.
 const COUNT: u64 = 0;
@@ -143,34 +141,6 @@ pub fn its_init(g: Guest) -> Outcome
     }
     let mut next = g;
     next.control.itsinit = 1;
-    Outcome {
-        errno: 0,
-        guest: next,
-    }
-}
-
-// The guest's part of RESET: no table is placed.
-pub fn its_reset(g: Guest) -> Outcome
-    requires { ⌜ Kept g ⌝ }
-    ensures { λ r. ⌜ Does r (itsReset (view g)) ⌝ }
-{
-    if g.control.itsinit != 1 {
-        return guest::refused(g, Errno::ENXIO);
-    }
-    if g.control.running == 1 {
-        return guest::refused(g, Errno::EBUSY);
-    }
-    let unplaced = Table {
-        set: 0,
-        start: 0,
-        pages: 0,
-    };
-    let none = Tables {
-        devices: unplaced,
-        collections: unplaced,
-    };
-    let mut next = g;
-    next.tables = none;
     Outcome {
         errno: 0,
         guest: next,

@@ -5,7 +5,6 @@ use mathlib.Core.Bool.{Bool}
 use mathlib.Core.List.{List, []}
 use lib.ListN.{length, take, replicate}
 use lib.Dec.{eqb}
-use Rattle.lists.specs.Rows.{choose}
 use Rattle.guest.specs.declared.Memory.{Memory}
 use Rattle.guest.specs.declared.Control.{Control}
 use Rattle.guest.specs.declared.Frame.{Frame}

@@ -114,10 +114,6 @@ impl Guest {
 
     pub const MAX_EVENTS: usize = 1024;
 
-    pub const MAX_IRQS: u64 = 1024;
-
-    pub const MIN_IRQS: u64 = 64;
-
     pub const FRESH_IRQS: u64 = 256;
 
     // A fresh guest: no VCPU, no frame, no table placed, 256 interrupts.

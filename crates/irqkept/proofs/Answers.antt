@@ -1,6 +1,5 @@
--- What the calls on interrupts and registers answer: 0 or an errno of the table; a refusal leaves the machine; a number that is
--- asked for fits.
-use Prim.Native.Nat.{ℕ, _≤_, _<_, _^_}
+-- What the calls on interrupts and registers answer: 0 or an errno of the table; a number that is asked for fits.
+use Prim.Native.Nat.{ℕ, _≤_, _<_}
 use native.Mathlib.Omega.{arith}
 use mathlib.Core.Path.{_≡_, refl}
 use mathlib.Core.Bool.{Bool, true, false, _||_}
@@ -9,11 +8,10 @@ use borrow.Author.Tests.{eqb-true}
 use Rattle.lists.specs.Rows.{choose}
 use Rattle.guest.specs.declared.Reading.{Reading}
 use Rattle.guest.specs.Machine.{Machine, Result, refuse, accept}
-use Rattle.kept.specs.Good.{Good, listed}
+use Rattle.kept.specs.Good.{listed}
 use Rattle.irqs.specs.Irqs.{irqPending, irqSet, irqClear, irqLine, irqTrigger}
 use Rattle.irqs.specs.Registers.{distributorRegister, registerFault, offsetOf, setGroup1, getGroup1, group5Fault, setGroup5, getGroup5, group7Fault, setGroup7, getGroup7}
-use Rattle.irqs.proofs.Answers.{Listed, fine, enxio, efault, ebusy, einval, irqPending-tells, irqSet-answers, irqClear-answers, irqLine-answers, irqTrigger-answers, setGroup1-answers, setGroup5-answers, setGroup7-answers, getGroup1-tells, getGroup5-tells, getGroup7-tells}
-use Rattle.irqkept.proofs.Sound.{tame}
+use Rattle.irqs.proofs.Answers.{Listed, fine, enxio, efault, ebusy, einval, irqPending-tells, irqSet-answers, irqClear-answers, irqLine-answers, irqTrigger-answers, setGroup1-answers, setGroup5-answers, setGroup7-answers}
 
 -- an errno of a call on interrupts is one of the table
 pub in-table : {e : ℕ} → Listed e → listed e ≡ true
@@ -43,44 +41,23 @@ module _ (e : ℕ) where
 pub irqSet-listed : (k intid : ℕ) (m : Machine) → listed (irqSet k intid m .errno) ≡ true
 irqSet-listed k intid m = in-table (irqSet-answers k intid m .listed)
 
-pub irqSet-leaves : (k intid : ℕ) (m : Machine) → (irqSet k intid m .errno ≡ 0 → ⊥) → irqSet k intid m .next ≡ m
-irqSet-leaves k intid m = irqSet-answers k intid m .left
-
 pub irqClear-listed : (k intid : ℕ) (m : Machine) → listed (irqClear k intid m .errno) ≡ true
 irqClear-listed k intid m = in-table (irqClear-answers k intid m .listed)
-
-pub irqClear-leaves : (k intid : ℕ) (m : Machine) → (irqClear k intid m .errno ≡ 0 → ⊥) → irqClear k intid m .next ≡ m
-irqClear-leaves k intid m = irqClear-answers k intid m .left
 
 pub irqLine-listed : (k intid level : ℕ) (m : Machine) → listed (irqLine k intid level m .errno) ≡ true
 irqLine-listed k intid level m = in-table (irqLine-answers k intid m level .listed)
 
-pub irqLine-leaves : (k intid level : ℕ) (m : Machine) → (irqLine k intid level m .errno ≡ 0 → ⊥) → irqLine k intid level m .next ≡ m
-irqLine-leaves k intid level m = irqLine-answers k intid m level .left
-
 pub irqTrigger-listed : (k intid word : ℕ) (m : Machine) → listed (irqTrigger k intid word m .errno) ≡ true
 irqTrigger-listed k intid word m = in-table (irqTrigger-answers k intid m word .listed)
-
-pub irqTrigger-leaves : (k intid word : ℕ) (m : Machine) → (irqTrigger k intid word m .errno ≡ 0 → ⊥) → irqTrigger k intid word m .next ≡ m
-irqTrigger-leaves k intid word m = irqTrigger-answers k intid m word .left
 
 pub setGroup1-listed : (attribute width value : ℕ) (m : Machine) → listed (setGroup1 attribute width value m .errno) ≡ true
 setGroup1-listed attribute width value m = in-table (setGroup1-answers attribute width m value .listed)
 
-pub setGroup1-leaves : (attribute width value : ℕ) (m : Machine) → (setGroup1 attribute width value m .errno ≡ 0 → ⊥) → setGroup1 attribute width value m .next ≡ m
-setGroup1-leaves attribute width value m = setGroup1-answers attribute width m value .left
-
 pub setGroup5-listed : (attribute width value : ℕ) (m : Machine) → listed (setGroup5 attribute width value m .errno) ≡ true
 setGroup5-listed attribute width value m = in-table (setGroup5-answers attribute width m value .listed)
 
-pub setGroup5-leaves : (attribute width value : ℕ) (m : Machine) → (setGroup5 attribute width value m .errno ≡ 0 → ⊥) → setGroup5 attribute width value m .next ≡ m
-setGroup5-leaves attribute width value m = setGroup5-answers attribute width m value .left
-
 pub setGroup7-listed : (attribute width value : ℕ) (m : Machine) → listed (setGroup7 attribute width value m .errno) ≡ true
 setGroup7-listed attribute width value m = in-table (setGroup7-answers attribute width m value .listed)
-
-pub setGroup7-leaves : (attribute width value : ℕ) (m : Machine) → (setGroup7 attribute width value m .errno ≡ 0 → ⊥) → setGroup7 attribute width value m .next ≡ m
-setGroup7-leaves attribute width value m = setGroup7-answers attribute width m value .left
 
 -- the questions
 pub irqPending-listed : (k intid : ℕ) (m : Machine) → listed (irqPending k intid m .errno) ≡ true
@@ -111,17 +88,8 @@ module _ (attribute width : ℕ) (m : Machine) where
   pub getGroup1-listed : listed (getGroup1 attribute width m .errno) ≡ true
   getGroup1-listed = rw getGroup1-as (setGroup1-listed attribute width 0 m)
 
-  pub getGroup1-small : Good m → getGroup1 attribute width m .number < 2 ^ 32
-  getGroup1-small h = getGroup1-tells attribute width m (tame m h) .number
-
   pub getGroup5-listed : listed (getGroup5 attribute width m .errno) ≡ true
   getGroup5-listed = rw getGroup5-as (setGroup5-listed attribute width 0 m)
 
-  pub getGroup5-small : Good m → getGroup5 attribute width m .number < 2 ^ 32
-  getGroup5-small h = getGroup5-tells attribute width m (tame m h) .number
-
   pub getGroup7-listed : listed (getGroup7 attribute width m .errno) ≡ true
   getGroup7-listed = rw getGroup7-as (setGroup7-listed attribute width 0 m)
-
-  pub getGroup7-small : Good m → getGroup7 attribute width m .number < 2 ^ 32
-  getGroup7-small h = getGroup7-tells attribute width m (tame m h) .number

@@ -5,3 +5,4 @@ pub mod GroupLaws
 pub mod Kept
 pub mod Answers
 pub mod Apart
+pub mod Anchors

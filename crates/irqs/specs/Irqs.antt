@@ -1,6 +1,5 @@
 -- The calls that name a VCPU and an INTID.
 use Prim.Native.Nat.{ℕ, _%_}
-use mathlib.Core.Bool.{Bool}
 use lib.ListN.{length}
 use lib.Dec.{ltb, eqb}
 use Rattle.lists.specs.Rows.{choose}

@@ -1,17 +1,16 @@
 -- Groups 1 (distributor), 5 (redistributor) and 7 (level words): 4-byte values. Order: unknown name, width, not ready, running, then the
 -- section's own. Group 7 knows every attribute, and running does not stop it.
-use Prim.Native.Nat.{ℕ, _+_, _-_, _*_, _/_, _%_, _^_, _≤_}
+use Prim.Native.Nat.{ℕ, _-_, _/_, _%_, _≤_}
 use mathlib.Core.Bool.{Bool, _&&_}
 use lib.ListN.{length}
 use lib.Dec.{ltb, leb, eqb}
 use Rattle.lists.specs.Rows.{choose}
 use Rattle.fields.specs.Field.{getField}
-use Rattle.guest.specs.declared.Control.{Control}
 use Rattle.guest.specs.declared.Vcpu.{Vcpu}
 use Rattle.guest.specs.declared.Reading.{Reading}
 use Rattle.guest.specs.Machine.{Machine, Result, refuse, accept, initialised, isRunning, withControl}
 use Rattle.irqs.specs.declared.Spot.{Spot}
-use Rattle.irqs.specs.declared.Spot.the-variants.{Own, Shared, Absent}
+use Rattle.irqs.specs.declared.Spot.the-variants.{Own}
 use Rattle.irqs.specs.declared.Register.{Register}
 use Rattle.irqs.specs.declared.Register.the-variants.{Latch, Zero, Status, Unknown}
 use Rattle.banks.specs.Bank.{withLatch, withLevel}

@@ -1,4 +1,4 @@
--- What the changing calls answer: 0 or an errno of the table, and a refusal leaves the machine.
+-- What the changing calls answer: 0 or an errno of the table.
 use Prim.Native.Nat.{ℕ, _%_}
 use mathlib.Core.Path.{_≡_, refl}
 use mathlib.Core.Bool.{true, _&&_, _||_}
@@ -7,64 +7,53 @@ use lib.Dec.{leb, eqb}
 use Rattle.areas.specs.declared.Area.{Area}
 use Rattle.areas.specs.Area.{endsBy, strikes}
 use Rattle.guest.specs.declared.Frame.{Frame}
-use Rattle.guest.specs.Machine.{Machine, Result, refuse, accept, initialised, isSet, isRunning}
+use Rattle.guest.specs.Machine.{Machine, Result, initialised, isSet}
 use Rattle.rules.specs.Standing.{standing, runSize, distributorSize, itsSize}
 use Rattle.rules.specs.Rules.{taken, irqsOk, limitOf}
-use Rattle.frames.specs.Vcpus.{addVcpu, setRunning, setIrqs, itsInit, itsReset}
+use Rattle.frames.specs.Vcpus.{addVcpu, setRunning, setIrqs, itsInit}
 use Rattle.frames.specs.Bases.{areaFault, frameFault, finish, setDistributor, singleFault, setSingle, setItsBase, wordFlags, wordIndex, wordRegion, regionFault, addRegion, setGroup0, setItsGroup0}
 use Rattle.frames.specs.Init.{hasPlaces, vgicInit}
 use Rattle.kept.specs.Good.{listed}
 use Rattle.kept.proofs.Choice.{chosen}
 
--- an errno of the table, and a refusal that leaves the machine
-record Fair (m : Machine) (r : Result) : Type 0 where
-  listed : listed (r .errno) ≡ true
-  leaves : (r .errno ≡ 0 → ⊥) → r .next ≡ m
+-- an errno of the table
+abbrev Fair : Result → Type 0
+Fair r = listed (r .errno) ≡ true
 
 module _ (m : Machine) where
-  refused : {e : ℕ} → listed e ≡ true → Fair m (refuse m e)
-  refused l = record { listed = l; leaves = λ _. refl }
-
-  accepted : {next : Machine} → Fair m (accept next)
+  finish-fair : (e : ℕ) (next : Machine) → listed e ≡ true → Fair (finish e m next)
   unfolding listed
-  accepted = record { listed = refl; leaves = λ n. absurd (n refl) }
+  finish-fair e next l = chosen Fair (eqb e 0) refl l
 
-  finish-fair : (e : ℕ) (next : Machine) → listed e ≡ true → Fair m (finish e m next)
-  finish-fair e next l = chosen (Fair m) (eqb e 0) accepted (refused l)
-
-  addVcpu-fair : (affinity : ℕ) → Fair m (addVcpu affinity m)
+  addVcpu-fair : (affinity : ℕ) → Fair (addVcpu affinity m)
   unfolding addVcpu listed
   addVcpu-fair a =
-      chosen (Fair m) (initialised m) (refused refl)
-      (chosen (Fair m) (taken (m .vcpus) a) (refused refl) (chosen (Fair m) (leb 64 (length (m .vcpus))) (refused refl) accepted))
+      chosen Fair (initialised m) refl
+      (chosen Fair (taken (m .vcpus) a) refl (chosen Fair (leb 64 (length (m .vcpus))) refl refl))
 
-  setRunning-fair : (r : ℕ) → Fair m (setRunning r m)
+  setRunning-fair : (r : ℕ) → Fair (setRunning r m)
   unfolding setRunning listed
-  setRunning-fair r = chosen (Fair m) (initialised m) accepted (refused refl)
+  setRunning-fair r = chosen Fair (initialised m) refl refl
 
-  setIrqs-fair : (attribute width value : ℕ) → Fair m (setIrqs attribute width value m)
+  setIrqs-fair : (attribute width value : ℕ) → Fair (setIrqs attribute width value m)
   unfolding setIrqs listed
   setIrqs-fair attribute width value =
-      chosen (Fair m) (eqb attribute 0)
-      (chosen (Fair m) (eqb width 4)
-      (chosen (Fair m) (irqsOk value) (chosen (Fair m) (eqb (m .control .irqsset) 1 || initialised m) (refused refl) accepted) (refused refl))
-      (refused refl))
-      (refused refl)
+      chosen Fair (eqb attribute 0)
+      (chosen Fair (eqb width 4)
+      (chosen Fair (irqsOk value) (chosen Fair (eqb (m .control .irqsset) 1 || initialised m) refl refl) refl)
+      refl)
+      refl
 
-  itsInit-fair : Fair m (itsInit m)
+  itsInit-fair : Fair (itsInit m)
   unfolding itsInit listed
-  itsInit-fair = chosen (Fair m) (initialised m && isSet (m .frames .its)) accepted (refused refl)
+  itsInit-fair = chosen Fair (initialised m && isSet (m .frames .its)) refl refl
 
-  itsReset-fair : Fair m (itsReset m)
-  unfolding itsReset listed
-  itsReset-fair = chosen (Fair m) (eqb (m .control .itsinit) 1) (chosen (Fair m) (isRunning m) (refused refl) accepted) (refused refl)
-
-  vgicInit-fair : Fair m (vgicInit m)
+  vgicInit-fair : Fair (vgicInit m)
   unfolding vgicInit listed
   vgicInit-fair =
-      chosen (Fair m) (initialised m) accepted
-      (chosen (Fair m) (eqb (length (m .vcpus)) 0) (refused refl)
-      (chosen (Fair m) (isSet (m .frames .distributor)) (chosen (Fair m) (hasPlaces m) accepted (refused refl)) (refused refl)))
+      chosen Fair (initialised m) refl
+      (chosen Fair (eqb (length (m .vcpus)) 0) refl
+      (chosen Fair (isSet (m .frames .distributor)) (chosen Fair (hasPlaces m) refl refl) refl))
 
   -- the faults of frames
   abbrev Listed : ℕ → Type 0
@@ -87,7 +76,7 @@ module _ (m : Machine) where
       (chosen Listed (eqb (wordIndex w) (length (m .regions))) (chosen Listed (leb 32 (length (m .regions))) refl (area-listed _)) refl))
       refl)
 
-  setDistributor-fair : (base : ℕ) → Fair m (setDistributor base m)
+  setDistributor-fair : (base : ℕ) → Fair (setDistributor base m)
   unfolding setDistributor
   setDistributor-fair base =
       finish-fair (frameFault (m .frames .distributor) distributorSize base m) _ (frame-listed (m .frames .distributor) distributorSize base)
@@ -96,74 +85,48 @@ module _ (m : Machine) where
   unfolding singleFault listed
   single-listed base = chosen Listed (eqb (length (m .regions)) 0) (frame-listed (m .frames .single) (runSize m) base) refl
 
-  setSingle-fair : (base : ℕ) → Fair m (setSingle base m)
+  setSingle-fair : (base : ℕ) → Fair (setSingle base m)
   unfolding setSingle
   setSingle-fair base = finish-fair (singleFault base m) _ (single-listed base)
 
-  addRegion-fair : (w : ℕ) → Fair m (addRegion w m)
+  addRegion-fair : (w : ℕ) → Fair (addRegion w m)
   unfolding addRegion
   addRegion-fair w = finish-fair (regionFault w m) _ (region-listed w)
 
-  setItsBase-fair : (base : ℕ) → Fair m (setItsBase base m)
+  setItsBase-fair : (base : ℕ) → Fair (setItsBase base m)
   unfolding setItsBase
   setItsBase-fair base = finish-fair (frameFault (m .frames .its) itsSize base m) _ (frame-listed (m .frames .its) itsSize base)
 
-  setGroup0-fair : (attribute width value : ℕ) → Fair m (setGroup0 attribute width value m)
+  setGroup0-fair : (attribute width value : ℕ) → Fair (setGroup0 attribute width value m)
   unfolding setGroup0 listed
   setGroup0-fair attribute width value =
-      chosen (Fair m) (eqb attribute 2) (chosen (Fair m) (eqb width 8) (setDistributor-fair value) (refused refl))
-      (chosen (Fair m) (eqb attribute 3) (chosen (Fair m) (eqb width 8) (setSingle-fair value) (refused refl))
-      (chosen (Fair m) (eqb attribute 5) (chosen (Fair m) (eqb width 8) (addRegion-fair value) (refused refl)) (refused refl)))
+      chosen Fair (eqb attribute 2) (chosen Fair (eqb width 8) (setDistributor-fair value) refl)
+      (chosen Fair (eqb attribute 3) (chosen Fair (eqb width 8) (setSingle-fair value) refl)
+      (chosen Fair (eqb attribute 5) (chosen Fair (eqb width 8) (addRegion-fair value) refl) refl))
 
-  setItsGroup0-fair : (attribute width value : ℕ) → Fair m (setItsGroup0 attribute width value m)
+  setItsGroup0-fair : (attribute width value : ℕ) → Fair (setItsGroup0 attribute width value m)
   unfolding setItsGroup0 listed
   setItsGroup0-fair attribute width value =
-      chosen (Fair m) (eqb attribute 4) (chosen (Fair m) (eqb width 8) (setItsBase-fair value) (refused refl)) (refused refl)
+      chosen Fair (eqb attribute 4) (chosen Fair (eqb width 8) (setItsBase-fair value) refl) refl
 
 pub addVcpu-listed : (affinity : ℕ) (m : Machine) → listed (addVcpu affinity m .errno) ≡ true
-addVcpu-listed affinity m = addVcpu-fair m affinity .listed
-
-pub addVcpu-leaves : (affinity : ℕ) (m : Machine) → (addVcpu affinity m .errno ≡ 0 → ⊥) → addVcpu affinity m .next ≡ m
-addVcpu-leaves affinity m = addVcpu-fair m affinity .leaves
+addVcpu-listed affinity m = addVcpu-fair m affinity
 
 pub setRunning-listed : (r : ℕ) (m : Machine) → listed (setRunning r m .errno) ≡ true
-setRunning-listed r m = setRunning-fair m r .listed
-
-pub setRunning-leaves : (r : ℕ) (m : Machine) → (setRunning r m .errno ≡ 0 → ⊥) → setRunning r m .next ≡ m
-setRunning-leaves r m = setRunning-fair m r .leaves
+setRunning-listed r m = setRunning-fair m r
 
 pub setIrqs-listed : (attribute width value : ℕ) (m : Machine) → listed (setIrqs attribute width value m .errno) ≡ true
-setIrqs-listed attribute width value m = setIrqs-fair m attribute width value .listed
-
-pub setIrqs-leaves : (attribute width value : ℕ) (m : Machine) → (setIrqs attribute width value m .errno ≡ 0 → ⊥) → setIrqs attribute width value m .next ≡ m
-setIrqs-leaves attribute width value m = setIrqs-fair m attribute width value .leaves
+setIrqs-listed attribute width value m = setIrqs-fair m attribute width value
 
 pub itsInit-listed : (m : Machine) → listed (itsInit m .errno) ≡ true
-itsInit-listed m = itsInit-fair m .listed
-
-pub itsInit-leaves : (m : Machine) → (itsInit m .errno ≡ 0 → ⊥) → itsInit m .next ≡ m
-itsInit-leaves m = itsInit-fair m .leaves
-
-pub itsReset-listed : (m : Machine) → listed (itsReset m .errno) ≡ true
-itsReset-listed m = itsReset-fair m .listed
-
-pub itsReset-leaves : (m : Machine) → (itsReset m .errno ≡ 0 → ⊥) → itsReset m .next ≡ m
-itsReset-leaves m = itsReset-fair m .leaves
+itsInit-listed m = itsInit-fair m
 
 pub setGroup0-listed : (attribute width value : ℕ) (m : Machine) → listed (setGroup0 attribute width value m .errno) ≡ true
-setGroup0-listed attribute width value m = setGroup0-fair m attribute width value .listed
-
-pub setGroup0-leaves : (attribute width value : ℕ) (m : Machine) → (setGroup0 attribute width value m .errno ≡ 0 → ⊥) → setGroup0 attribute width value m .next ≡ m
-setGroup0-leaves attribute width value m = setGroup0-fair m attribute width value .leaves
+setGroup0-listed attribute width value m = setGroup0-fair m attribute width value
 
 pub setItsGroup0-listed : (attribute width value : ℕ) (m : Machine) → listed (setItsGroup0 attribute width value m .errno) ≡ true
-setItsGroup0-listed attribute width value m = setItsGroup0-fair m attribute width value .listed
-
-pub setItsGroup0-leaves : (attribute width value : ℕ) (m : Machine) → (setItsGroup0 attribute width value m .errno ≡ 0 → ⊥) → setItsGroup0 attribute width value m .next ≡ m
-setItsGroup0-leaves attribute width value m = setItsGroup0-fair m attribute width value .leaves
+setItsGroup0-listed attribute width value m = setItsGroup0-fair m attribute width value
 
 pub vgicInit-listed : (m : Machine) → listed (vgicInit m .errno) ≡ true
-vgicInit-listed m = vgicInit-fair m .listed
+vgicInit-listed m = vgicInit-fair m
 
-pub vgicInit-leaves : (m : Machine) → (vgicInit m .errno ≡ 0 → ⊥) → vgicInit m .next ≡ m
-vgicInit-leaves m = vgicInit-fair m .leaves

@@ -149,20 +149,11 @@ module _ (m : Machine) where
 pub getIrqs-listed : (attribute width : ℕ) (m : Machine) → listed (getIrqs attribute width m .errno) ≡ true
 getIrqs-listed attribute width m = getIrqs-told m attribute width .listed
 
-pub getIrqs-small : (attribute width : ℕ) (m : Machine) → Good m → getIrqs attribute width m .number < 2 ^ 32
-getIrqs-small attribute width m = getIrqs-told m attribute width .small
-
 pub getGroup0-listed : (attribute width value : ℕ) (m : Machine) → listed (getGroup0 attribute width value m .errno) ≡ true
 getGroup0-listed attribute width value m = getGroup0-told m attribute width value .listed
 
-pub getGroup0-small : (attribute width value : ℕ) (m : Machine) → Good m → getGroup0 attribute width value m .number < 2 ^ 64
-getGroup0-small attribute width value m = getGroup0-told m attribute width value .small
-
 pub getItsGroup0-listed : (attribute width : ℕ) (m : Machine) → listed (getItsGroup0 attribute width m .errno) ≡ true
 getItsGroup0-listed attribute width m = getItsGroup0-told m attribute width .listed
-
-pub getItsGroup0-small : (attribute width : ℕ) (m : Machine) → Good m → getItsGroup0 attribute width m .number < 2 ^ 64
-getItsGroup0-small attribute width m = getItsGroup0-told m attribute width .small
 
 pub redistBase-listed : (k : ℕ) (m : Machine) → listed (redistBase k m .errno) ≡ true
 redistBase-listed k m = redistBase-told m k .listed

@@ -13,11 +13,11 @@ use Rattle.fields.specs.Field.{getField}
 use Rattle.guest.specs.declared.Control.{Control}
 use Rattle.guest.specs.declared.Vcpu.{Vcpu}
 use Rattle.guest.specs.declared.Bank.{Bank}
-use Rattle.guest.specs.Machine.{Machine, initialised, isSet, isRunning, noVcpu, noBank, noTables, unplaced, unset, sharedCount, fresh, withControl, withShared, withTables, withVcpus}
+use Rattle.guest.specs.Machine.{Machine, initialised, isSet, noVcpu, noBank, noTables, unplaced, unset, sharedCount, fresh, withControl, withShared, withTables, withVcpus}
 use Rattle.areas.specs.Area.{apart, overlaps}
 use Rattle.rules.specs.Standing.{standing}
 use Rattle.rules.specs.Rules.{memoryOk, irqsOk, frameOk, framesOk, initOk, hasAffinity, taken, distinct, vcpuOk, vcpusOk, tableOk, tablesOk}
-use Rattle.frames.specs.Vcpus.{addVcpu, setRunning, setIrqs, itsInit, itsReset}
+use Rattle.frames.specs.Vcpus.{addVcpu, setRunning, setIrqs, itsInit}
 use Rattle.guest.specs.Words.{FrameWords, BankWords, TableWords}
 use Rattle.kept.specs.Good.{Good, Stays, Keeps}
 use Rattle.kept.proofs.Choice.{choose-by, and-left, and-right, and-both}
@@ -179,12 +179,10 @@ no-tables : (m : Machine) → tablesOk (withTables noTables m) ≡ true
 unfolding tablesOk tableOk overlaps
 no-tables m = and-both (le-leb 0 (m .control .itsinit) (omega arith)) refl
 
-pub itsReset-keeps : Keeps itsReset
-unfolding itsReset framesOk standing initOk
-itsReset-keeps m h =
-    choose-by Stays (eqb (m .control .itsinit) 1)
-    (λ _. choose-by Stays (isRunning m) (λ _. h)
-    (λ _.
+-- a machine whose tables are not placed any more
+pub unplaced-good : (m : Machine) → Good m → Good (withTables noTables m)
+unfolding framesOk standing initOk
+unplaced-good m h =
     let p = parts m h in
     let w = h .words in
     good
@@ -206,8 +204,7 @@ itsReset-keeps m h =
       shared = p .shared;
       its = p .its;
       tables = no-tables m;
-    })))
-    (λ _. h)
+    })
 
 fresh-vcpu : (a : ℕ) → vcpuOk (noVcpu a) ≡ true
 unfolding vcpuOk getField

@@ -1,10 +1,9 @@
 -- What the test of the counts says, and what the parts of the loaded guest give together.
 use Prim.Native.Nat.{ℕ, _≤_}
-use mathlib.Core.Path.{_≡_, refl, sym, ap, _∙_}
-use mathlib.Core.Bool.{Bool, true, false, _&&_, and-eq-true-iff}
+use mathlib.Core.Path.{_≡_, ap, _∙_}
+use mathlib.Core.Bool.{true, and-eq-true-iff}
 use mathlib.Core.List.{List}
 use lib.ListN.{take, drop}
-use lib.Dec.{leb}
 use borrow.Author.Tests.{leb-true}
 use Rattle.words.specs.Words.{leAt, rowsOf}
 use Rattle.guest.specs.declared.Memory.{Memory}

@@ -1,14 +1,14 @@
 -- Decoding what was stored gives the machine back; past the tables the bytes are as they were.
-use Prim.Native.Nat.{ℕ, suc, _+_, _*_, _^_, _≤_, _<_}
+use Prim.Native.Nat.{ℕ, _+_, _*_, _^_, _≤_, _<_}
 use native.Mathlib.Nat.{mul-le-mul-right}
 use native.Mathlib.Omega.{arith}
-use mathlib.Core.Path.{_≡_, refl, sym, ap, ap₂, _∙_, subst}
-use mathlib.Core.List.{List, [], _∷_, _++_, append-nil}
-use lib.ListN.{length, getD, take, drop, length-drop}
+use mathlib.Core.Path.{_≡_, refl, sym, ap, ap₂, _∙_}
+use mathlib.Core.List.{List, [], _++_, append-nil}
+use lib.ListN.{length, getD, take, drop}
 use lib.Dec.{lit<}
 use Rattle.lists.proofs.All.{All, none, more, all-append, all-take, all-drop}
 use Rattle.words.specs.Words.{leAt, putAt, rowsOf, bytesAll, bytesOf}
-use Rattle.words.proofs.Laws.{length-putAt, length-bytesOf, drop-putAt-here, drop-putAt-past}
+use Rattle.words.proofs.Laws.{length-putAt, drop-putAt-here, drop-putAt-past}
 use Rattle.words.proofs.Rows.{length-bytesAll, rows-back}
 use Rattle.words.proofs.Back.{words-back}
 use Rattle.words.proofs.Bytes.{Bytes, bytesOf-bytes, bytesAll-bytes}

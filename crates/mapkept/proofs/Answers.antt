@@ -1,4 +1,4 @@
--- What the mapping commands answer: 0 or an errno of the table, and a refusal leaves the mapping.
+-- What the mapping commands answer: 0 or an errno of the table.
 use Prim.Native.Nat.{ℕ, _%_, _^_}
 use mathlib.Core.Path.{_≡_, refl}
 use mathlib.Core.Bool.{true, _&&_}
@@ -12,7 +12,7 @@ use Rattle.rules.specs.Rules.{tableArea, memoryArea}
 use Rattle.kept.specs.Good.{listed}
 use Rattle.kept.proofs.Choice.{chosen}
 use Rattle.mapping.specs.declared.Device.{Device}
-use Rattle.mapping.specs.Mapped.{Mapped, MapResult, refuse, accept, ittArea}
+use Rattle.mapping.specs.Mapped.{Mapped, MapResult, ittArea}
 use Rattle.mapping.specs.Commands.{
   deviceEntries,
   tableAreas,
@@ -39,10 +39,9 @@ use Rattle.mapping.specs.Commands.{
 abbrev Listed : ℕ → Type 0
 Listed e = listed e ≡ true
 
--- an errno of the table, and a refusal that leaves the mapping
-record Fair (k : Mapped) (r : MapResult) : Type 0 where
-  listed : Listed (r .errno)
-  leaves : (r .errno ≡ 0 → ⊥) → r .next ≡ k
+-- an errno of the table
+abbrev Fair : MapResult → Type 0
+Fair r = Listed (r .errno)
 
 device-listed : (d : Device) (m : Machine) (k : Mapped) → Listed (deviceFault d m k)
 unfolding deviceFault listed
@@ -89,86 +88,59 @@ unfolding lookup listed
 lookup-listed device event k = chosen (λ (r : Reading). Listed (r .errno)) (hasEvent device event k) refl refl
 
 module _ (k : Mapped) where
-  refused : {e : ℕ} → Listed e → Fair k (refuse k e)
-  refused l = record { listed = l; leaves = λ _. refl }
-
-  accepted : {next : Mapped} → Fair k (accept next)
-  unfolding listed
-  accepted = record { listed = refl; leaves = λ n. absurd (n refl) }
-
-  mapDevice-fair : (id itt bits : ℕ) (m : Machine) → Fair k (mapDevice id itt bits m k)
-  unfolding mapDevice
+  mapDevice-fair : (id itt bits : ℕ) (m : Machine) → Fair (mapDevice id itt bits m k)
+  unfolding mapDevice listed
   mapDevice-fair id itt bits m =
       let d : Device = record { id = id; itt = itt; bits = bits } in
-      chosen (Fair k) (eqb (deviceFault d m k) 0) accepted (refused (device-listed d m k))
+      chosen Fair (eqb (deviceFault d m k) 0) refl (device-listed d m k)
 
-  unmapDevice-fair : (id : ℕ) → Fair k (unmapDevice id k)
+  unmapDevice-fair : (id : ℕ) → Fair (unmapDevice id k)
   unfolding unmapDevice listed
-  unmapDevice-fair id = chosen (Fair k) (hasDevice id k) accepted (refused refl)
+  unmapDevice-fair id = chosen Fair (hasDevice id k) refl refl
 
-  mapCollection-fair : (icid pe : ℕ) (m : Machine) → Fair k (mapCollection icid pe m k)
+  mapCollection-fair : (icid pe : ℕ) (m : Machine) → Fair (mapCollection icid pe m k)
   unfolding mapCollection listed
   mapCollection-fair icid pe m =
-      chosen (Fair k) (ltb icid 65536 && ltb pe (length (m .vcpus)))
-      (chosen (Fair k) (hasCollection icid k) accepted (chosen (Fair k) (leb 16 (length (k .collections))) (refused refl) accepted))
-      (refused refl)
+      chosen Fair (ltb icid 65536 && ltb pe (length (m .vcpus)))
+      (chosen Fair (hasCollection icid k) refl (chosen Fair (leb 16 (length (k .collections))) refl refl))
+      refl
 
-  unmapCollection-fair : (icid : ℕ) → Fair k (unmapCollection icid k)
+  unmapCollection-fair : (icid : ℕ) → Fair (unmapCollection icid k)
   unfolding unmapCollection listed
   unmapCollection-fair icid =
-      chosen (Fair k) (hasCollection icid k) (chosen (Fair k) (isNamed icid k) (refused refl) accepted) (refused refl)
+      chosen Fair (hasCollection icid k) (chosen Fair (isNamed icid k) refl refl) refl
 
-  mapEvent-fair : (device event lpi icid : ℕ) → Fair k (mapEvent device event lpi icid k)
-  unfolding mapEvent
+  mapEvent-fair : (device event lpi icid : ℕ) → Fair (mapEvent device event lpi icid k)
+  unfolding mapEvent listed
   mapEvent-fair device event lpi icid =
-      chosen (Fair k) (eqb (eventFault device event lpi icid k) 0) accepted (refused (event-listed device event lpi icid k))
+      chosen Fair (eqb (eventFault device event lpi icid k) 0) refl (event-listed device event lpi icid k)
 
-  discard-fair : (device event : ℕ) → Fair k (discard device event k)
+  discard-fair : (device event : ℕ) → Fair (discard device event k)
   unfolding discard listed
-  discard-fair device event = chosen (Fair k) (hasEvent device event k) accepted (refused refl)
+  discard-fair device event = chosen Fair (hasEvent device event k) refl refl
 
-  move-fair : (device event icid : ℕ) → Fair k (move device event icid k)
+  move-fair : (device event icid : ℕ) → Fair (move device event icid k)
   unfolding move listed
-  move-fair device event icid = chosen (Fair k) (hasEvent device event k && hasCollection icid k) accepted (refused refl)
+  move-fair device event icid = chosen Fair (hasEvent device event k && hasCollection icid k) refl refl
 
 pub mapDevice-listed : (id itt bits : ℕ) (m : Machine) (k : Mapped) → listed (mapDevice id itt bits m k .errno) ≡ true
-mapDevice-listed id itt bits m k = mapDevice-fair k id itt bits m .listed
-
-pub mapDevice-leaves : (id itt bits : ℕ) (m : Machine) (k : Mapped) → (mapDevice id itt bits m k .errno ≡ 0 → ⊥) → mapDevice id itt bits m k .next ≡ k
-mapDevice-leaves id itt bits m k = mapDevice-fair k id itt bits m .leaves
+mapDevice-listed id itt bits m k = mapDevice-fair k id itt bits m
 
 pub unmapDevice-listed : (id : ℕ) (k : Mapped) → listed (unmapDevice id k .errno) ≡ true
-unmapDevice-listed id k = unmapDevice-fair k id .listed
-
-pub unmapDevice-leaves : (id : ℕ) (k : Mapped) → (unmapDevice id k .errno ≡ 0 → ⊥) → unmapDevice id k .next ≡ k
-unmapDevice-leaves id k = unmapDevice-fair k id .leaves
+unmapDevice-listed id k = unmapDevice-fair k id
 
 pub mapCollection-listed : (icid pe : ℕ) (m : Machine) (k : Mapped) → listed (mapCollection icid pe m k .errno) ≡ true
-mapCollection-listed icid pe m k = mapCollection-fair k icid pe m .listed
-
-pub mapCollection-leaves : (icid pe : ℕ) (m : Machine) (k : Mapped) → (mapCollection icid pe m k .errno ≡ 0 → ⊥) → mapCollection icid pe m k .next ≡ k
-mapCollection-leaves icid pe m k = mapCollection-fair k icid pe m .leaves
+mapCollection-listed icid pe m k = mapCollection-fair k icid pe m
 
 pub unmapCollection-listed : (icid : ℕ) (k : Mapped) → listed (unmapCollection icid k .errno) ≡ true
-unmapCollection-listed icid k = unmapCollection-fair k icid .listed
-
-pub unmapCollection-leaves : (icid : ℕ) (k : Mapped) → (unmapCollection icid k .errno ≡ 0 → ⊥) → unmapCollection icid k .next ≡ k
-unmapCollection-leaves icid k = unmapCollection-fair k icid .leaves
+unmapCollection-listed icid k = unmapCollection-fair k icid
 
 pub mapEvent-listed : (device event lpi icid : ℕ) (k : Mapped) → listed (mapEvent device event lpi icid k .errno) ≡ true
-mapEvent-listed device event lpi icid k = mapEvent-fair k device event lpi icid .listed
-
-pub mapEvent-leaves : (device event lpi icid : ℕ) (k : Mapped) → (mapEvent device event lpi icid k .errno ≡ 0 → ⊥) → mapEvent device event lpi icid k .next ≡ k
-mapEvent-leaves device event lpi icid k = mapEvent-fair k device event lpi icid .leaves
+mapEvent-listed device event lpi icid k = mapEvent-fair k device event lpi icid
 
 pub discard-listed : (device event : ℕ) (k : Mapped) → listed (discard device event k .errno) ≡ true
-discard-listed device event k = discard-fair k device event .listed
-
-pub discard-leaves : (device event : ℕ) (k : Mapped) → (discard device event k .errno ≡ 0 → ⊥) → discard device event k .next ≡ k
-discard-leaves device event k = discard-fair k device event .leaves
+discard-listed device event k = discard-fair k device event
 
 pub move-listed : (device event icid : ℕ) (k : Mapped) → listed (move device event icid k .errno) ≡ true
-move-listed device event icid k = move-fair k device event icid .listed
+move-listed device event icid k = move-fair k device event icid
 
-pub move-leaves : (device event icid : ℕ) (k : Mapped) → (move device event icid k .errno ≡ 0 → ⊥) → move device event icid k .next ≡ k
-move-leaves device event icid k = move-fair k device event icid .leaves

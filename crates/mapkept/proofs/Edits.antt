@@ -9,8 +9,8 @@ use lib.Seq.{split-at, map-set-same}
 use borrow.Author.Tests.{le-ltb}
 use Rattle.lists.specs.Rows.{choose, findIx}
 use Rattle.lists.proofs.All.{All, none, more, all-append, all-take, all-drop}
-use Rattle.areas.proofs.Tests.{clash, refuted, or-left, or-right, or-true}
-use Rattle.areas.proofs.Has.{has, has-nil, has-cons, has-append}
+use Rattle.areas.proofs.Tests.{clash, refuted, or-left, or-right}
+use Rattle.areas.proofs.Has.{has, has-nil, has-cons}
 use Rattle.mapping.specs.Mapped.{insertedAt, removedAt, kept}
 
 -- a fact of every row
@@ -132,9 +132,6 @@ module _ {A : Type 0} (p : A → Bool) where
       both (take i l ++ drop (suc i) l) l
       (λ C no some. sym (ap (seek p no some) (split-at l i d h) ∙ seek-among p no some (take i l) (getD l i d) (drop (suc i) l) e))
 
-  pub same-kept : (q : A → Bool) (l : List A) → ((x : A) → p x ≡ true → q x ≡ true) → Same (kept q l) l
-  same-kept q l f = both (kept q l) l (λ C no some. seek-kept p no some q f l)
-
   -- only what the test says of each row matters
   find-tests : (l : List A) → findIx p l ≡ findIx (λ b. b) (map p l)
   unfolding findIx
@@ -164,11 +161,6 @@ module _ {A : Type 0} (p : A → Bool) where
       by : (b : Bool) → p x ≡ b → (b || has p l) ≡ true → (has p l ≡ true → p (getD l (findIx p l) d) ≡ true) → p (getD (x ∷ l) (choose b 0 (suc (findIx p l))) d) ≡ true
       by true q f h = q
       by false q f h = h f
-
-  -- a row that passes is found once it is put in
-  pub has-inserted : (i : ℕ) (x : A) (l : List A) → p x ≡ true → has p (insertedAt i x l) ≡ true
-  unfolding insertedAt
-  has-inserted i x l e = has-append p (take i l) (x ∷ drop i l) ∙ rw (has-cons, e) (or-true (has p (take i l)))
 
   -- a search that comes to the end finds none
   pub absent : (l : List A) → findIx p l ≡ length l → has p l ≡ false

@@ -28,7 +28,7 @@ use Rattle.mapping.specs.Commands.{
   move,
 }
 use Rattle.mapkept.proofs.Edits.{all-weaker, all-inserted, all-removed, all-set, length-inserted, length-removed, find-same}
-use Rattle.mapkept.proofs.Rising.{rising-inserted, rising-removed, rising-set, find-row}
+use Rattle.mapkept.proofs.Rising.{rising-inserted, rising-removed, rising-set}
 use Rattle.mapkept.proofs.Sound.{EventParts, Sound, with-events, Stays, Keeps, keeps}
 
 -- a key tells the device and the event, where event IDs are below 65,536
@@ -56,13 +56,6 @@ module _ (m : Machine) (k : Mapped) (s : Sound m k) where
   find-event device event h =
       find-same (isEvent device event) (λ y. eqb (eventKey y) (device * 65536 + event)) (k .events)
       (all-weaker (λ y p. same-key device event y h (small-event y p)) (k .events) (s .events))
-
-  -- a row is found by its device and event
-  pub find-event-row : (i : ℕ) → i < length (k .events) → indexOfEvent (getD (k .events) i noEvent .device) (getD (k .events) i noEvent .event) k ≡ i
-  find-event-row i h =
-      let e = getD (k .events) i noEvent in
-      find-event (e .device) (e .event) (small-event e (all-at (k .events) i noEvent (s .events) h))
-      ∙ find-row eventKey (k .events) i noEvent (s .risingEvents) h
 
 -- an event that may be mapped
 record Fits (x : Event) (k : Mapped) : Type 0 where

@@ -105,10 +105,6 @@ module _ (device event : ℕ) (m : Machine) (k : Mapped) (r : rules m ≡ true) 
         collection = collection-row m r k s (x .icid) (p .collection);
       }
 
-  -- the collection of an event that stands, stands
-  pub lookup-collection : hasEvent device event k ≡ true → hasCollection (eventOf device event k .icid) k ≡ true
-  lookup-collection h = lookup-rows h .row .collection
-
   pub lookup-small : lookup device event k .number < 2 ^ 63
   unfolding lookup
   lookup-small =

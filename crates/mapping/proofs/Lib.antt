@@ -1,4 +1,8 @@
 pub mod Table
 pub mod Replace
 pub mod Counts
+pub mod Edits
+pub mod Rise
+pub mod Meaning
 pub mod Sized
+pub mod Anchors

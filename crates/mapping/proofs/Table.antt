@@ -22,11 +22,12 @@ use lib.Seq.{
   length-take-le,
 }
 use borrow.Author.Count.{below-more}
-use Rattle.lists.specs.Rows.{choose, findIx, insertRow, removeRow}
+use Rattle.lists.specs.Rows.{findIx, insertRow, removeRow}
 use Rattle.lists.proofs.Find.{row-here, row-none}
 use Rattle.lists.proofs.Edit.{Inserting, insert-start, insert-turn, insert-end, Removing, remove-start, remove-turn, remove-end}
 use Rattle.lists.proofs.All.{rows-insertRow}
 use Rattle.mapping.specs.Mapped.{insertedAt, removedAt, kept}
+use Rattle.mapping.proofs.Edits.{kept-append}
 
 module _ {A : Type 0} where
   drop-take : (n i : ℕ) (l : List A) → i ≤ n → n ≤ length l → drop i (take n l) ≡ take (n - i) (drop i l)
@@ -118,15 +119,6 @@ module _ {A : Type 0} (p : A → Bool) (d : A) (n : ℕ) (l : List A) where
 
 -- the rows that pass a test, moved down in the array itself
 module _ {A : Type 0} (p : A → Bool) where
-  kept-append : (a b : List A) → kept p (a ++ b) ≡ kept p a ++ kept p b
-  unfolding kept
-  kept-append [] b = refl
-  kept-append (x ∷ xs) b = rw (kept-append xs b) (at (p x))
-    where
-      at : (q : Bool) → choose q (x ∷ (kept p xs ++ kept p b)) (kept p xs ++ kept p b) ≡ choose q (x ∷ kept p xs) (kept p xs) ++ kept p b
-      at true = refl
-      at false = refl
-
   module _ (n : ℕ) (l : List A) where
     -- of the rows before i, those that pass stand before j; from j on the array is as it was
     pub record Keeping (b : List A) (j i : ℕ) : Type 0 where
@@ -163,7 +155,7 @@ module _ {A : Type 0} (p : A → Bool) where
           let s = keep-same d b j i v in
           let e : p (getD l i d) ≡ true = rw s at t in
           let m : kept p (take (i + 1) l) ≡ kept p (take i l) ++ (getD l i d ∷ []) =
-          rw (add-one, take-suc l i d (omega arith), kept-append (take i l) (getD l i d ∷ []), e) in
+          rw (add-one, take-suc l i d (omega arith), kept-append p (take i l) (getD l i d ∷ []), e) in
           record {
             room = r;
             end = omega arith;
@@ -182,7 +174,7 @@ module _ {A : Type 0} (p : A → Bool) where
           let r = v .room in
           let e : p (getD l i d) ≡ false = rw (keep-same d b j i v) at t in
           let m : kept p (take (i + 1) l) ≡ kept p (take i l) =
-          rw (add-one, take-suc l i d (omega arith), kept-append (take i l) (getD l i d ∷ []), e) (append-nil (kept p (take i l))) in
+          rw (add-one, take-suc l i d (omega arith), kept-append p (take i l) (getD l i d ∷ []), e) (append-nil (kept p (take i l))) in
           record { room = r; end = omega arith; below = omega arith; count = rw m (v .count); rows = rw m (v .rows) }
 
     pub keep-end : (b : List A) (j i : ℕ) → n ≤ i → Keeping b j i → take j b ≡ kept p (take n l)

@@ -1,7 +1,7 @@
 -- The mapping commands, on the rows. Each is tried once the ITS is initialised and its tables are placed.
-use Prim.Native.Nat.{ℕ, suc, _+_, _*_, _%_, _^_}
-use mathlib.Core.Bool.{Bool, true, false, _&&_, _||_, not}
-use mathlib.Core.List.{List, [], _∷_, map}
+use Prim.Native.Nat.{ℕ, _+_, _*_, _%_, _^_}
+use mathlib.Core.Bool.{Bool, _&&_, not}
+use mathlib.Core.List.{List, _∷_, map}
 use lib.ListN.{length, getD, set}
 use lib.Dec.{ltb, leb, eqb}
 use Rattle.lists.specs.Rows.{choose, findIx}
@@ -9,13 +9,12 @@ use Rattle.areas.specs.declared.Area.{Area}
 use Rattle.areas.specs.Area.{inside, strikes, overlaps}
 use Rattle.guest.specs.declared.Reading.{Reading}
 use Rattle.guest.specs.declared.Table.{Table}
-use Rattle.guest.specs.declared.Tables.{Tables}
 use Rattle.guest.specs.Machine.{Machine}
 use Rattle.rules.specs.Rules.{tableArea, memoryArea}
 use Rattle.mapping.specs.declared.Device.{Device}
 use Rattle.mapping.specs.declared.Collection.{Collection}
 use Rattle.mapping.specs.declared.Event.{Event}
-use Rattle.mapping.specs.Mapped.{Mapped, MapResult, refuse, accept, empty, deviceKey, collectionKey, eventKey, findKey, placeOf, insertedAt, removedAt, kept, isEvent, findEvent, ittArea, noDevice, noCollection, noEvent}
+use Rattle.mapping.specs.Mapped.{Mapped, MapResult, refuse, accept, deviceKey, collectionKey, eventKey, findKey, placeOf, insertedAt, removedAt, kept, findEvent, ittArea, noDevice, noCollection, noEvent}
 
 -- the entries of the device table: 8 bytes each
 abbrev pub deviceEntries : Machine → ℕ

@@ -2,9 +2,9 @@
 -- order without repeats, so that two mappings are equal as sets if and only if they are equal as lists.
 use Prim.Native.Nat.{ℕ, suc, _+_, _*_, _^_, _≤_}
 use mathlib.Core.Path.{_≡_}
-use mathlib.Core.Bool.{Bool, true, false, _&&_}
+use mathlib.Core.Bool.{Bool, true, _&&_}
 use mathlib.Core.List.{List, [], _∷_, _++_}
-use lib.ListN.{length, take, drop}
+use lib.ListN.{take, drop}
 use lib.Dec.{eqb, leb, ltb}
 use Rattle.lists.specs.Rows.{findIx}
 use Rattle.areas.specs.declared.Area.{Area}

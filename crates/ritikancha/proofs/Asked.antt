@@ -1,9 +1,8 @@
 -- How large the errno and the number of a question are.
-use Prim.Native.Nat.{ℕ, suc, _≤_, _<_, _^_}
+use Prim.Native.Nat.{ℕ, suc, _<_, _^_}
 use native.Mathlib.Nat.{lt-of-le-of-lt}
-use native.Mathlib.Omega.{arith}
-use mathlib.Core.Path.{_≡_, refl}
-use mathlib.Core.Bool.{Bool, true, false}
+use mathlib.Core.Path.{_≡_}
+use mathlib.Core.Bool.{true}
 use mathlib.Core.List.{List, [], _∷_}
 use lib.ListN.{length, getD}
 use lib.Dec.{eqb, lit<}
@@ -12,12 +11,10 @@ use Rattle.words.proofs.Bytes.{Bytes}
 use Rattle.guest.specs.declared.Reading.{Reading}
 use Rattle.rules.specs.Rules.{rules}
 use Rattle.layout.specs.Layout.{size, decode, countsOk}
-use Rattle.mapping.specs.MapRules.{mapRules}
 use Rattle.mapping.specs.Commands.{lookup}
 use Rattle.maplayout.specs.MapLayout.{decodeMap, mapCountsOk}
 use Rattle.mapkept.proofs.Answers.{lookup-listed}
 use Rattle.mapkept.proofs.Words.{lookup-small}
-use Rattle.kept.specs.Good.{listed}
 use Rattle.calls.specs.Commands.{ready, lookupStep}
 use Rattle.layout.proofs.Typed.{decode-words}
 use Rattle.kept.specs.Good.{Good}
@@ -27,7 +24,7 @@ use Rattle.irqkept.proofs.Answers.{listed-small, irqPending-small}
 use Rattle.calls.specs.declared.Question.{Question}
 use Rattle.calls.specs.declared.Question.the-variants.{RedistBase, Pending}
 use Rattle.calls.specs.Steps.{askStep}
-use Rattle.calls.specs.Sound.{sound}
+use Rattle.state.specs.Sound.{sound}
 use Rattle.calls.specs.Call.{asks, looks}
 use Rattle.calls.proofs.Answers.{ask-known}
 

@@ -1,20 +1,15 @@
-// The C interface. Every promise is an equation with a definition, for every input; none asks anything of the caller.
+// The C interface. Every promise is one record over `step`, the definition that the claims are stated over: the answer, and the state
+// and the lent bytes at exit, read or written. For every input; none asks anything of the caller.
 use calls::Change;
 use calls::Command;
 use calls::Question;
-ghost use mathlib.Core.Path.{_≡_};
-ghost use lib.IntN.{pos};
-ghost use lib.ListN.{length};
-ghost use Rattle.layout.specs.Layout.{size};
-ghost use Rattle.calls.specs.declared.Change.{Change};
-ghost use Rattle.calls.specs.declared.Command.{Command};
-ghost use Rattle.calls.specs.declared.Question.{Question};
-ghost use Rattle.calls.specs.Call.{changes, asks, setUp, valueOf, given, answered, commands, itsSets, looks, saves, restores, Gives};
+ghost use mathlib.Core.List.{[]};
+ghost use Rattle.step.specs.Step.{step, Leaves, stateLen, setup, vcpuAdd, vcpusStart, vcpusStop, vgicSet, itsSet, vgicGet, itsGet, redistBase, irqPending, irqSetPending, irqClearPending, irqActivate, irqLine, irqTrigger, itsPlace, itsMapDevice, itsUnmapDevice, itsMapCollection, itsUnmapCollection, itsMapEvent, itsDiscard, itsMove, itsLookup, itsSave, itsRestore};
 
 // The length of a guest's state in bytes.
 #[no_mangle]
 pub extern "C" fn rk_state_len() -> i64
-    ensures { λ r. ⌜ r ≡ pos size ⌝ }
+    ensures { λ r. ⌜ Leaves (step stateLen [] []) r [] [] ⌝ }
 {
     11400
 }
@@ -22,35 +17,35 @@ pub extern "C" fn rk_state_len() -> i64
 // Makes a fresh guest of any bytes of the right length.
 #[no_mangle]
 pub extern "C" fn rk_setup(state: &mut [u8], width: u64, start: u64, length: u64) -> i64
-    ensures { λ r. ⌜ Gives (setUp width start length (now (state .entry))) r (now (state .exit)) ⌝ }
+    ensures { λ r. ⌜ Leaves (step (setup width start length) (now (state .entry)) []) r (now (state .exit)) [] ⌝ }
 {
     calls::set_up(state, width, start, length)
 }
 
 #[no_mangle]
 pub extern "C" fn rk_vcpu_add(state: &mut [u8], affinity: u32) -> i64
-    ensures { λ r. ⌜ Gives (changes (Change.AddVcpu affinity) (now (state .entry))) r (now (state .exit)) ⌝ }
+    ensures { λ r. ⌜ Leaves (step (vcpuAdd affinity) (now (state .entry)) []) r (now (state .exit)) [] ⌝ }
 {
     calls::apply(state, Change::AddVcpu(affinity as u64))
 }
 
 #[no_mangle]
 pub extern "C" fn rk_vcpus_start(state: &mut [u8]) -> i64
-    ensures { λ r. ⌜ Gives (changes Change.Start (now (state .entry))) r (now (state .exit)) ⌝ }
+    ensures { λ r. ⌜ Leaves (step vcpusStart (now (state .entry)) []) r (now (state .exit)) [] ⌝ }
 {
     calls::apply(state, Change::Start)
 }
 
 #[no_mangle]
 pub extern "C" fn rk_vcpus_stop(state: &mut [u8]) -> i64
-    ensures { λ r. ⌜ Gives (changes Change.Stop (now (state .entry))) r (now (state .exit)) ⌝ }
+    ensures { λ r. ⌜ Leaves (step vcpusStop (now (state .entry)) []) r (now (state .exit)) [] ⌝ }
 {
     calls::apply(state, Change::Stop)
 }
 
 #[no_mangle]
 pub extern "C" fn rk_vgic_set(state: &mut [u8], group: u64, attribute: u64, value: &[u8]) -> i64
-    ensures { λ r. ⌜ Gives (changes (Change.VgicSet group attribute (length (now (value .entry))) (valueOf (now (value .entry)))) (now (state .entry))) r (now (state .exit)) ⌝ }
+    ensures { λ r. ⌜ Leaves (step (vgicSet group attribute) (now (state .entry)) (now (value .entry))) r (now (state .exit)) (now (value .exit)) ⌝ }
 {
     let width = value.len() as u64;
     let number = calls::value_of(value);
@@ -60,7 +55,7 @@ pub extern "C" fn rk_vgic_set(state: &mut [u8], group: u64, attribute: u64, valu
 // RESET, group 4, attribute 4, is a command: it empties the mapping.
 #[no_mangle]
 pub extern "C" fn rk_its_set(state: &mut [u8], group: u64, attribute: u64, value: &[u8]) -> i64
-    ensures { λ r. ⌜ Gives (itsSets group attribute (length (now (value .entry))) (valueOf (now (value .entry))) (now (state .entry))) r (now (state .exit)) ⌝ }
+    ensures { λ r. ⌜ Leaves (step (itsSet group attribute) (now (state .entry)) (now (value .entry))) r (now (state .exit)) (now (value .exit)) ⌝ }
 {
     let width = value.len() as u64;
     let number = calls::value_of(value);
@@ -75,7 +70,7 @@ pub extern "C" fn rk_its_set(state: &mut [u8], group: u64, attribute: u64, value
 
 #[no_mangle]
 pub extern "C" fn rk_vgic_get(state: &[u8], group: u64, attribute: u64, value: &mut [u8]) -> i64
-    ensures { λ r. ⌜ Gives (given (asks (Question.VgicGet group attribute (length (now (value .entry))) (valueOf (now (value .entry)))) (now (state .entry))) (now (value .entry))) r (now (value .exit)) ⌝ }
+    ensures { λ r. ⌜ Leaves (step (vgicGet group attribute) (now (state .entry)) (now (value .entry))) r (now (state .exit)) (now (value .exit)) ⌝ }
 {
     let width = value.len() as u64;
     let number = calls::value_of(value);
@@ -85,7 +80,7 @@ pub extern "C" fn rk_vgic_get(state: &[u8], group: u64, attribute: u64, value: &
 
 #[no_mangle]
 pub extern "C" fn rk_its_get(state: &[u8], group: u64, attribute: u64, value: &mut [u8]) -> i64
-    ensures { λ r. ⌜ Gives (given (asks (Question.ItsGet group attribute (length (now (value .entry)))) (now (state .entry))) (now (value .entry))) r (now (value .exit)) ⌝ }
+    ensures { λ r. ⌜ Leaves (step (itsGet group attribute) (now (state .entry)) (now (value .entry))) r (now (state .exit)) (now (value .exit)) ⌝ }
 {
     let width = value.len() as u64;
     let r = calls::ask(state, Question::ItsGet(group, attribute, width));
@@ -94,126 +89,126 @@ pub extern "C" fn rk_its_get(state: &[u8], group: u64, attribute: u64, value: &m
 
 #[no_mangle]
 pub extern "C" fn rk_redist_base(state: &[u8], vcpu: u64) -> i64
-    ensures { λ r. ⌜ r ≡ answered (asks (Question.RedistBase vcpu) (now (state .entry))) ⌝ }
+    ensures { λ r. ⌜ Leaves (step (redistBase vcpu) (now (state .entry)) []) r (now (state .exit)) [] ⌝ }
 {
     calls::tell(calls::ask(state, Question::RedistBase(vcpu)))
 }
 
 #[no_mangle]
 pub extern "C" fn rk_irq_pending(state: &[u8], vcpu: u64, intid: u64) -> i64
-    ensures { λ r. ⌜ r ≡ answered (asks (Question.Pending vcpu intid) (now (state .entry))) ⌝ }
+    ensures { λ r. ⌜ Leaves (step (irqPending vcpu intid) (now (state .entry)) []) r (now (state .exit)) [] ⌝ }
 {
     calls::tell(calls::ask(state, Question::Pending(vcpu, intid)))
 }
 
 #[no_mangle]
 pub extern "C" fn rk_irq_set_pending(state: &mut [u8], vcpu: u64, intid: u64) -> i64
-    ensures { λ r. ⌜ Gives (changes (Change.SetPending vcpu intid) (now (state .entry))) r (now (state .exit)) ⌝ }
+    ensures { λ r. ⌜ Leaves (step (irqSetPending vcpu intid) (now (state .entry)) []) r (now (state .exit)) [] ⌝ }
 {
     calls::apply(state, Change::SetPending(vcpu, intid))
 }
 
 #[no_mangle]
 pub extern "C" fn rk_irq_clear_pending(state: &mut [u8], vcpu: u64, intid: u64) -> i64
-    ensures { λ r. ⌜ Gives (changes (Change.ClearPending vcpu intid) (now (state .entry))) r (now (state .exit)) ⌝ }
+    ensures { λ r. ⌜ Leaves (step (irqClearPending vcpu intid) (now (state .entry)) []) r (now (state .exit)) [] ⌝ }
 {
     calls::apply(state, Change::ClearPending(vcpu, intid))
 }
 
 #[no_mangle]
 pub extern "C" fn rk_irq_activate(state: &mut [u8], vcpu: u64, intid: u64) -> i64
-    ensures { λ r. ⌜ Gives (changes (Change.Activate vcpu intid) (now (state .entry))) r (now (state .exit)) ⌝ }
+    ensures { λ r. ⌜ Leaves (step (irqActivate vcpu intid) (now (state .entry)) []) r (now (state .exit)) [] ⌝ }
 {
     calls::apply(state, Change::Activate(vcpu, intid))
 }
 
 #[no_mangle]
 pub extern "C" fn rk_irq_line(state: &mut [u8], vcpu: u64, intid: u64, level: u64) -> i64
-    ensures { λ r. ⌜ Gives (changes (Change.Line vcpu intid level) (now (state .entry))) r (now (state .exit)) ⌝ }
+    ensures { λ r. ⌜ Leaves (step (irqLine vcpu intid level) (now (state .entry)) []) r (now (state .exit)) [] ⌝ }
 {
     calls::apply(state, Change::Line(vcpu, intid, level))
 }
 
 #[no_mangle]
 pub extern "C" fn rk_irq_trigger(state: &mut [u8], vcpu: u64, intid: u64, word: u32) -> i64
-    ensures { λ r. ⌜ Gives (changes (Change.Trigger vcpu intid word) (now (state .entry))) r (now (state .exit)) ⌝ }
+    ensures { λ r. ⌜ Leaves (step (irqTrigger vcpu intid word) (now (state .entry)) []) r (now (state .exit)) [] ⌝ }
 {
     calls::apply(state, Change::Trigger(vcpu, intid, word as u64))
 }
 
 #[no_mangle]
 pub extern "C" fn rk_its_place(state: &mut [u8], dstart: u64, dpages: u64, cstart: u64, cpages: u64) -> i64
-    ensures { λ r. ⌜ Gives (commands (Command.Place dstart dpages cstart cpages) (now (state .entry))) r (now (state .exit)) ⌝ }
+    ensures { λ r. ⌜ Leaves (step (itsPlace dstart dpages cstart cpages) (now (state .entry)) []) r (now (state .exit)) [] ⌝ }
 {
     calls::run_command(state, Command::Place(dstart, dpages, cstart, cpages))
 }
 
 #[no_mangle]
 pub extern "C" fn rk_its_map_device(state: &mut [u8], device: u64, itt: u64, bits: u64) -> i64
-    ensures { λ r. ⌜ Gives (commands (Command.MapDevice device itt bits) (now (state .entry))) r (now (state .exit)) ⌝ }
+    ensures { λ r. ⌜ Leaves (step (itsMapDevice device itt bits) (now (state .entry)) []) r (now (state .exit)) [] ⌝ }
 {
     calls::run_command(state, Command::MapDevice(device, itt, bits))
 }
 
 #[no_mangle]
 pub extern "C" fn rk_its_unmap_device(state: &mut [u8], device: u64) -> i64
-    ensures { λ r. ⌜ Gives (commands (Command.UnmapDevice device) (now (state .entry))) r (now (state .exit)) ⌝ }
+    ensures { λ r. ⌜ Leaves (step (itsUnmapDevice device) (now (state .entry)) []) r (now (state .exit)) [] ⌝ }
 {
     calls::run_command(state, Command::UnmapDevice(device))
 }
 
 #[no_mangle]
 pub extern "C" fn rk_its_map_collection(state: &mut [u8], icid: u64, pe: u64) -> i64
-    ensures { λ r. ⌜ Gives (commands (Command.MapCollection icid pe) (now (state .entry))) r (now (state .exit)) ⌝ }
+    ensures { λ r. ⌜ Leaves (step (itsMapCollection icid pe) (now (state .entry)) []) r (now (state .exit)) [] ⌝ }
 {
     calls::run_command(state, Command::MapCollection(icid, pe))
 }
 
 #[no_mangle]
 pub extern "C" fn rk_its_unmap_collection(state: &mut [u8], icid: u64) -> i64
-    ensures { λ r. ⌜ Gives (commands (Command.UnmapCollection icid) (now (state .entry))) r (now (state .exit)) ⌝ }
+    ensures { λ r. ⌜ Leaves (step (itsUnmapCollection icid) (now (state .entry)) []) r (now (state .exit)) [] ⌝ }
 {
     calls::run_command(state, Command::UnmapCollection(icid))
 }
 
 #[no_mangle]
 pub extern "C" fn rk_its_map_event(state: &mut [u8], device: u64, event: u64, lpi: u64, icid: u64) -> i64
-    ensures { λ r. ⌜ Gives (commands (Command.MapEvent device event lpi icid) (now (state .entry))) r (now (state .exit)) ⌝ }
+    ensures { λ r. ⌜ Leaves (step (itsMapEvent device event lpi icid) (now (state .entry)) []) r (now (state .exit)) [] ⌝ }
 {
     calls::run_command(state, Command::MapEvent(device, event, lpi, icid))
 }
 
 #[no_mangle]
 pub extern "C" fn rk_its_discard(state: &mut [u8], device: u64, event: u64) -> i64
-    ensures { λ r. ⌜ Gives (commands (Command.Discard device event) (now (state .entry))) r (now (state .exit)) ⌝ }
+    ensures { λ r. ⌜ Leaves (step (itsDiscard device event) (now (state .entry)) []) r (now (state .exit)) [] ⌝ }
 {
     calls::run_command(state, Command::Discard(device, event))
 }
 
 #[no_mangle]
 pub extern "C" fn rk_its_move(state: &mut [u8], device: u64, event: u64, icid: u64) -> i64
-    ensures { λ r. ⌜ Gives (commands (Command.Move device event icid) (now (state .entry))) r (now (state .exit)) ⌝ }
+    ensures { λ r. ⌜ Leaves (step (itsMove device event icid) (now (state .entry)) []) r (now (state .exit)) [] ⌝ }
 {
     calls::run_command(state, Command::Move(device, event, icid))
 }
 
 #[no_mangle]
 pub extern "C" fn rk_its_lookup(state: &[u8], device: u64, event: u64) -> i64
-    ensures { λ r. ⌜ r ≡ answered (looks device event (now (state .entry))) ⌝ }
+    ensures { λ r. ⌜ Leaves (step (itsLookup device event) (now (state .entry)) []) r (now (state .exit)) [] ⌝ }
 {
     calls::tell(calls::look(state, device, event))
 }
 
 #[no_mangle]
 pub extern "C" fn rk_its_save(state: &[u8], memory: &mut [u8]) -> i64
-    ensures { λ r. ⌜ Gives (saves (now (state .entry)) (now (memory .entry))) r (now (memory .exit)) ⌝ }
+    ensures { λ r. ⌜ Leaves (step itsSave (now (state .entry)) (now (memory .entry))) r (now (state .exit)) (now (memory .exit)) ⌝ }
 {
     calls::save(state, memory)
 }
 
 #[no_mangle]
 pub extern "C" fn rk_its_restore(state: &mut [u8], memory: &[u8]) -> i64
-    ensures { λ r. ⌜ Gives (restores (now (state .entry)) (now (memory .entry))) r (now (state .exit)) ⌝ }
+    ensures { λ r. ⌜ Leaves (step itsRestore (now (state .entry)) (now (memory .entry))) r (now (state .exit)) (now (memory .exit)) ⌝ }
 {
     calls::restore(state, memory)
 }

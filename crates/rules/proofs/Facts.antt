@@ -1,23 +1,20 @@
 -- What is known of a sound guest: of a machine that keeps the rules, and of a struct that passed the test. Assumes nothing.
 use Prim.Native.Nat.{ℕ, _^_, _≤_, _<_}
 use native.Mathlib.Omega.{arith}
-use mathlib.Core.Path.{_≡_, refl, sym, _∙_}
+use mathlib.Core.Path.{_≡_, refl}
 use mathlib.Core.Bool.{true}
 use mathlib.Core.List.{List, [], _∷_}
 use lib.ListN.{length, getD}
-use lib.Seq.{length-take-le}
 use lib.Pow.{pow-mono}
 use borrow.Author.Tests.{lt-ltb}
 use Rattle.lists.specs.Rows.{all}
-use Rattle.lists.proofs.All.{from-all, all-at}
-use Rattle.areas.specs.Area.{apart}
 use Rattle.guest.specs.declared.Region.{Region}
 use Rattle.guest.specs.declared.Guest.{Guest}
 use Rattle.guest.specs.Machine.{Machine, view, sharedCount}
-use Rattle.rules.specs.Standing.{standing, runSize, smallCount, Small, distributorSize, itsSize}
-use Rattle.rules.specs.Rules.{regionOk, vcpuOk, limitOf, rules, Kept}
-use Rattle.rules.proofs.Rows.{noRegion, blankVcpu, row-passes, all-weaker}
-use Rattle.rules.proofs.Parts.{MemoryParts, IrqsParts, ControlParts, FrameParts, RegionParts, FramesParts, InitParts, VcpuParts, VcpusParts, TableParts, TablesParts, memory-parts, irqs-parts, control-parts, frame-parts, region-parts, frames-parts, init-parts, vcpu-parts, vcpus-parts, table-parts, tables-parts, its-parts, rules-parts}
+use Rattle.rules.specs.Standing.{runSize, smallCount, Small, distributorSize, itsSize}
+use Rattle.rules.specs.Rules.{regionOk, limitOf, rules, Kept}
+use Rattle.rules.proofs.Rows.{noRegion, row-passes, all-weaker}
+use Rattle.rules.proofs.Parts.{MemoryParts, IrqsParts, ControlParts, FrameParts, RegionParts, FramesParts, InitParts, VcpusParts, TableParts, TablesParts, memory-parts, irqs-parts, control-parts, frame-parts, region-parts, frames-parts, init-parts, vcpus-parts, table-parts, tables-parts, its-parts, rules-parts}
 
 none-left : {A : Type 0} (l : List A) → length l ≡ 0 → l ≡ []
 none-left [] e = refl
@@ -37,17 +34,8 @@ module _ (m : Machine) (e : rules m ≡ true) where
   pub sound-control : ControlParts (m .control)
   sound-control = control-parts (m .control) (rules-parts m e .control)
 
-  pub sound-running : m .control .running ≤ 1
-  sound-running = omega (arith, sound-control .running, sound-control .init)
-
-  pub sound-itsinit : m .control .itsinit ≤ 1
-  sound-itsinit = omega (arith, sound-control .itsinit, sound-control .init)
-
   pub sound-irqs : IrqsParts (m .control .irqs)
   sound-irqs = irqs-parts (m .control .irqs) (sound-control .irqs)
-
-  pub sound-unset : m .control .irqsset ≡ 0 → m .control .irqs ≡ 256
-  sound-unset = sound-control .unset
 
   pub sound-frames : FramesParts m
   sound-frames = frames-parts m (rules-parts m e .frames)
@@ -62,11 +50,6 @@ module _ (m : Machine) (e : rules m ≡ true) where
   pub sound-its : FrameParts (limitOf m) itsSize (m .frames .its)
   sound-its = frame-parts (limitOf m) itsSize (m .frames .its) (sound-frames .its)
 
-  pub sound-region : (i : ℕ) → i < length (m .regions) → RegionParts (limitOf m) (getD (m .regions) i noRegion)
-  sound-region i h =
-      region-parts (limitOf m) (getD (m .regions) i noRegion)
-      (all-at (m .regions) i noRegion (from-all (regionOk (limitOf m)) (m .regions) (sound-frames .regions)) h)
-
   pub sound-small : all smallCount (m .regions) ≡ true
   sound-small = regions-small (limitOf m) (m .regions) (sound-frames .regions)
 
@@ -74,17 +57,11 @@ module _ (m : Machine) (e : rules m ≡ true) where
   pub sound-no-regions : m .frames .single .set ≡ 1 → m .regions ≡ []
   sound-no-regions h = none-left (m .regions) (sound-frames .either h)
 
-  pub sound-apart : apart (standing m) ≡ true
-  sound-apart = sound-frames .apart
-
   pub sound-init : m .control .init ≡ 1 → InitParts m
   sound-init h = init-parts m (rules-parts m e .init) h
 
   pub sound-vcpus : VcpusParts (m .vcpus)
   sound-vcpus = vcpus-parts (m .vcpus) (rules-parts m e .vcpus)
-
-  pub sound-vcpu : (i : ℕ) → i < length (m .vcpus) → VcpuParts (getD (m .vcpus) i blankVcpu)
-  sound-vcpu i h = vcpu-parts (getD (m .vcpus) i blankVcpu) (all-at (m .vcpus) i blankVcpu (from-all vcpuOk (m .vcpus) (sound-vcpus .each)) h)
 
   pub sound-shared : length (m .shared) ≡ sharedCount (m .control .irqs)
   sound-shared = rules-parts m e .shared
@@ -110,17 +87,3 @@ module _ (g : Guest) (k : Kept g) where
   kept-row f i h =
       region-parts (limitOf (view g)) (getD (g .regions .rows) i noRegion)
       (row-passes (regionOk (limitOf (view g))) noRegion (g .regions .count) (g .regions .rows) i f h (sound-frames (view g) (k .rules) .regions))
-
-  pub kept-no-rows : g .regions .count ≤ length (g .regions .rows) → g .frames .single .set ≡ 1 → g .regions .count ≡ 0
-  kept-no-rows f h = sym (length-take-le (g .regions .count) (g .regions .rows) f) ∙ sound-frames (view g) (k .rules) .either h
-
-  pub kept-vcpu : g .vcpus .count ≤ length (g .vcpus .rows) → (i : ℕ) → i < g .vcpus .count → VcpuParts (getD (g .vcpus .rows) i blankVcpu)
-  kept-vcpu f i h =
-      vcpu-parts (getD (g .vcpus .rows) i blankVcpu)
-      (row-passes vcpuOk blankVcpu (g .vcpus .count) (g .vcpus .rows) i f h (sound-vcpus (view g) (k .rules) .each))
-
-  pub kept-some : g .vcpus .count ≤ length (g .vcpus .rows) → g .control .init ≡ 1 → 1 ≤ g .vcpus .count
-  kept-some f h = omega (arith, length-take-le (g .vcpus .count) (g .vcpus .rows) f, sound-init (view g) (k .rules) h .some)
-
-  pub kept-shared : g .shared .count ≤ length (g .shared .rows) → g .shared .count ≡ sharedCount (g .control .irqs)
-  kept-shared f = sym (length-take-le (g .shared .count) (g .shared .rows) f) ∙ sound-shared (view g) (k .rules)

@@ -3,3 +3,4 @@ pub mod Built
 pub mod Parts
 pub mod Facts
 pub mod Samples
+pub mod Meaning

@@ -1,7 +1,7 @@
 -- The rules of document 01 that a guest's state can break: what makes it sound. The mapping's rules stand with the mapping.
 use Prim.Native.Nat.{ℕ, _+_, _*_, _%_, _^_}
 use mathlib.Core.Path.{_≡_}
-use mathlib.Core.Bool.{Bool, true, false, _&&_, _||_, not}
+use mathlib.Core.Bool.{Bool, true, _&&_, _||_, not}
 use mathlib.Core.List.{List, [], _∷_}
 use lib.ListN.{length}
 use lib.Dec.{ltb, leb, eqb}
@@ -15,7 +15,6 @@ use Rattle.guest.specs.declared.Frame.{Frame}
 use Rattle.guest.specs.declared.Region.{Region}
 use Rattle.guest.specs.declared.Vcpu.{Vcpu}
 use Rattle.guest.specs.declared.Table.{Table}
-use Rattle.guest.specs.declared.Tables.{Tables}
 use Rattle.guest.specs.declared.Guest.{Guest}
 use Rattle.guest.specs.Machine.{Machine, Held, view, initialised, isSet, sharedCount}
 use Rattle.rules.specs.Standing.{standing, runSize, regionArea, total, distributorSize, itsSize}

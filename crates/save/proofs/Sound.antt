@@ -1,18 +1,13 @@
 -- What the rules of a guest and its mapping say of the rows that are written and of the places that they go to. Assumes nothing.
-use Prim.Native.Nat.{ℕ, _+_, _-_, _*_, _%_, _^_, _≤_, _<_}
+use Prim.Native.Nat.{ℕ, _-_, _*_, _^_, _≤_, _<_}
 use native.Mathlib.Omega.{arith}
 use mathlib.Core.Path.{_≡_, sym, ap, _∙_, subst}
-use mathlib.Core.Bool.{Bool, true}
-use mathlib.Core.List.{List, [], _∷_}
-use lib.ListN.{length}
-use lib.Dec.{ltb, leb, eqb}
-use lib.Pow.{pow-mono, pow-pos}
-use borrow.Author.Tests.{ltb-true, leb-true, eqb-true}
-use Rattle.lists.specs.Rows.{all}
-use Rattle.lists.proofs.All.{All, from-all, all-at}
-use Rattle.areas.specs.declared.Area.{Area}
-use Rattle.areas.specs.Area.{inside, apart, endOf}
-use Rattle.areas.proofs.Tests.{split}
+use mathlib.Core.Bool.{true}
+use mathlib.Core.List.{List}
+use lib.Pow.{pow-pos}
+use borrow.Author.Tests.{eqb-true}
+use Rattle.lists.proofs.Member.{In, all-in, all-of, all-weaker}
+use Rattle.areas.proofs.Laws.{Inside, inside-says}
 use Rattle.guest.specs.declared.Memory.{Memory}
 use Rattle.guest.specs.declared.Table.{Table}
 use Rattle.guest.specs.declared.Tables.{Tables}
@@ -24,97 +19,30 @@ use Rattle.rules.proofs.Facts.{sound-memory, sound-limit, sound-vcpus, sound-ta
 use Rattle.mapping.specs.declared.Device.{Device}
 use Rattle.mapping.specs.declared.Collection.{Collection}
 use Rattle.mapping.specs.declared.Event.{Event}
-use Rattle.mapping.specs.Mapped.{Mapped, rising, deviceKey, collectionKey, eventKey, ittArea, noDevice}
-use Rattle.mapping.specs.Commands.{deviceEntries, tableAreas, indexOfDevice, hasDevice, deviceOf, hasCollection}
-use Rattle.mapping.specs.MapRules.{isPlaced, deviceOk, collectionOk, eventOk, mappingOk, mapRules}
-use Rattle.mapping.proofs.Sized.{rules-rows}
+use Rattle.mapping.specs.Mapped.{Mapped, deviceKey}
+use Rattle.mapping.specs.MapRules.{isPlaced, mapRules}
+use Rattle.mapping.specs.Meaning.{CollectionRules, DeviceRules, Owned, MappingRules}
+use Rattle.mapping.proofs.Rise.{one-of-key}
+use Rattle.mapping.proofs.Meaning.{rules-say, event-small}
 use Rattle.maplayout.specs.MapLayout.{decodeMap}
 use Rattle.save.specs.Saving.{DeviceGood, CollectionGood, DevicesReady, CollectionsReady, IttReady, IttsReady, Saveable}
-use Rattle.save.proofs.Rows.{all-weaker, all-both}
-use Rattle.save.proofs.Rising.{Rises, rises, rises-ready, rises-found, rises-sorted, rises-events}
-
--- an area inside memory: its offset, and that it ends by the memory's length
-record Placed (r : Memory) (a : Area) : Type 0 where
-  low : r .start ≤ a .start
-  high : a .start + a .size ≤ r .start + r .length
-
-placed : (r : Memory) (a : Area) → inside (memoryArea r) a ≡ true → Placed r a
-unfolding inside
-placed r a e =
-    let p = split (leb (r .start) (a .start)) (leb (endOf a) (endOf (memoryArea r)) ∷ []) e in
-    record { low = leb-true (r .start) (a .start) (p .0); high = leb-true (endOf a) (endOf (memoryArea r)) (p .1) }
-
--- the rows, one by one
-record DeviceParts (m : Machine) (d : Device) : Type 0 where
-  id : d .id < deviceEntries m
-  low : 1 ≤ d .bits
-  high : d .bits ≤ 16
-  page : d .itt % 256 ≡ 0
-  itt : Placed (m .memory) (ittArea d)
-
-device-parts : (m : Machine) (d : Device) → deviceOk m d ≡ true → DeviceParts m d
-unfolding deviceOk
-device-parts m d e =
-    let p = split (ltb (d .id) (deviceEntries m))
-    (leb 1 (d .bits) ∷ leb (d .bits) 16 ∷ eqb (d .itt % 256) 0 ∷ inside (memoryArea (m .memory)) (ittArea d) ∷ []) e in
-    record {
-      id = ltb-true (d .id) (deviceEntries m) (p .0);
-      low = leb-true 1 (d .bits) (p .1 .0);
-      high = leb-true (d .bits) 16 (p .1 .1 .0);
-      page = eqb-true (d .itt % 256) 0 (p .1 .1 .1 .0);
-      itt = placed (m .memory) (ittArea d) (p .1 .1 .1 .1);
-    }
-
-module _ {A : Type 0} {P : A → Type 0} where
-  each : (t : A → Bool) → ((x : A) → t x ≡ true → P x) → (l : List A) → all t l ≡ true → All P l
-  each t f l e = all-weaker f l (from-all t l e)
-
-module _ (m : Machine) (k : Mapped) where
-  record Orders : Type 0 where
-    few : length (k .collections) ≤ 16
-    devices : Rises deviceKey (k .devices)
-    events : Rises eventKey (k .events)
-
-  orders : mappingOk m k ≡ true → Orders
-  unfolding mappingOk
-  orders e =
-      let p = split (leb (length (k .collections)) 16)
-      (leb (length (k .devices)) 32 ∷ leb (length (k .events)) 1024 ∷ rising collectionKey (k .collections)
-      ∷ rising deviceKey (k .devices) ∷ rising eventKey (k .events) ∷ all (collectionOk m) (k .collections)
-      ∷ all (deviceOk m) (k .devices) ∷ apart (tableAreas m (k .devices)) ∷ all (eventOk k) (k .events) ∷ []) e in
-      record {
-        few = leb-true (length (k .collections)) 16 (p .0);
-        devices = rises deviceKey (k .devices) (p .1 .1 .1 .1 .0);
-        events = rises eventKey (k .events) (p .1 .1 .1 .1 .1 .0);
-      }
-
-  -- an event ID is below 2^bits of the device that is found for it
-  event-parts : (e : Event) → eventOk k e ≡ true → (hasDevice (e .device) k ≡ true) × (e .event < 2 ^ deviceOf (e .device) k .bits)
-  unfolding eventOk
-  event-parts e h =
-      let p = split (hasDevice (e .device) k)
-      (ltb (e .event) (2 ^ deviceOf (e .device) k .bits) ∷ leb 8192 (e .lpi) ∷ leb (e .lpi) 65535 ∷ hasCollection (e .icid) k ∷ []) h in
-      (p .0, ltb-true (e .event) (2 ^ deviceOf (e .device) k .bits) (p .1 .0))
+use Rattle.save.proofs.Rising.{rises-ready, rises-sorted, rises-events}
 
 module _ (m : Machine) (sound : rules m ≡ true) where
   -- a table that is placed
-  table-placed : (t : Table) → TableParts (m .memory) t → t .set ≡ 1 → Placed (m .memory) (tableArea t)
-  table-placed t p e = placed (m .memory) (tableArea t) (p .within e)
+  table-placed : (t : Table) → TableParts (m .memory) t → t .set ≡ 1 → Inside (memoryArea (m .memory)) (tableArea t)
+  table-placed t p e = inside-says (memoryArea (m .memory)) (tableArea t) (p .within e)
 
-  device-good : (d : Device) → DeviceParts m d → DeviceGood d
+  device-good : (d : Device) → DeviceRules m d → DeviceGood d
   device-good d p = record {
-    itt = omega (arith, p .itt .high, sound-memory m sound .end, sound-limit m sound, pow-pos (d .bits));
+    itt = omega (arith, p .within .upto, sound-memory m sound .end, sound-limit m sound, pow-pos (d .bits));
     page = p .page;
-    low = p .low;
-    high = p .high;
+    low = p .some;
+    high = p .most;
   }
 
-  collection-good : (c : Collection) → collectionOk m c ≡ true → CollectionGood c
-  unfolding collectionOk
-  collection-good c e =
-      let p = split (ltb (c .icid) 65536) (ltb (c .pe) (length (m .vcpus)) ∷ []) e in
-      let q = ltb-true (c .pe) (length (m .vcpus)) (p .1) in
-      record { icid = ltb-true (c .icid) 65536 (p .0); pe = omega (arith, sound-vcpus m sound .few) }
+  collection-good : (c : Collection) → CollectionRules m c → CollectionGood c
+  collection-good c p = record { icid = p .icid; pe = omega (arith, p .pe, sound-vcpus m sound .few) }
 
 module _ (m : Machine) (k : Mapped) (sound : rules m ≡ true) (kept : mapRules m k ≡ true) (both : isPlaced m ≡ true) where
   set-devices : m .tables .devices .set ≡ 1
@@ -123,66 +51,54 @@ module _ (m : Machine) (k : Mapped) (sound : rules m ≡ true) (kept : mapRules 
   set-collections : m .tables .collections .set ≡ 1
   set-collections = sym (sound-tables m sound .together) ∙ set-devices
 
-  devices-placed : Placed (m .memory) (tableArea (m .tables .devices))
+  devices-placed : Inside (memoryArea (m .memory)) (tableArea (m .tables .devices))
   devices-placed = table-placed m sound (m .tables .devices) (sound-devices m sound) set-devices
 
-  collections-placed : Placed (m .memory) (tableArea (m .tables .collections))
+  collections-placed : Inside (memoryArea (m .memory)) (tableArea (m .tables .collections))
   collections-placed = table-placed m sound (m .tables .collections) (sound-collections m sound) set-collections
 
-  in-order : Orders m k
-  unfolding mapRules
-  in-order = orders m k (rw both at kept)
-
-  device-rows : All (DeviceParts m) (k .devices)
-  device-rows = each (deviceOk m) (device-parts m) (k .devices) (rules-rows m k kept .devices)
-
-  event-rows : All (λ e. (hasDevice (e .device) k ≡ true) × (e .event < 2 ^ deviceOf (e .device) k .bits)) (k .events)
-  event-rows = each (eventOk k) (event-parts m k) (k .events) (rules-rows m k kept .events)
-
-  event-small : (e : Event) → (hasDevice (e .device) k ≡ true) × (e .event < 2 ^ deviceOf (e .device) k .bits) → e .event < 65536
-  event-small e p =
-      let i = indexOfDevice (e .device) k in
-      let d = all-at (k .devices) i noDevice device-rows (ltb-true i (length (k .devices)) (p .0)) in
-      omega (arith, p .1, pow-mono (d .high))
+  given : MappingRules m k
+  given = rules-say m k kept .placed both
 
   module _ (len : ℕ) (long : len ≡ m .memory .length) where
     devices-ready : DevicesReady len (m .tables .devices .start - m .memory .start) (512 * m .tables .devices .pages) (k .devices)
     devices-ready = record {
-      room = omega (arith, devices-placed .low, devices-placed .high);
+      room = omega (arith, devices-placed .from, devices-placed .upto);
       ready =
-          rises-ready deviceKey (512 * m .tables .devices .pages) 0 (k .devices) (in-order .devices)
-          (all-weaker (λ d p. (omega arith, p .id)) (k .devices) device-rows);
-      good = all-weaker (device-good m sound) (k .devices) device-rows;
+          rises-ready deviceKey (512 * m .tables .devices .pages) 0 (k .devices) (given .devices-rise)
+          (all-weaker (λ d p. (omega arith, p .id)) (k .devices) (given .devices));
+      good = all-weaker (device-good m sound) (k .devices) (given .devices);
     }
 
     collections-ready : CollectionsReady len (m .tables .collections .start - m .memory .start) (512 * m .tables .collections .pages) (k .collections)
     collections-ready = record {
-      room = omega (arith, collections-placed .low, collections-placed .high);
-      few = omega (arith, in-order .few, sound-collections m sound .some set-collections);
-      good = each (collectionOk m) (collection-good m sound) (k .collections) (rules-rows m k kept .collections);
+      room = omega (arith, collections-placed .from, collections-placed .upto);
+      few = omega (arith, given .few-collections, sound-collections m sound .some set-collections);
+      good = all-weaker (collection-good m sound) (k .collections) (given .collections);
     }
 
-    itt-ready : (d : Device) → DeviceParts m d → deviceOf (d .id) k ≡ d → IttReady (m .memory .start) len (k .events) d
-    itt-ready d p q = record {
+    itt-ready : (d : Device) → In d (k .devices) → DeviceRules m d → IttReady (m .memory .start) len (k .events) d
+    itt-ready d i p = record {
       id = omega (arith, p .id, sound-devices m sound .most);
-      bits = p .high;
-      place = p .itt .low;
-      room = omega (arith, p .itt .low, p .itt .high);
-      ready = rises-events (d .id) (2 ^ d .bits) 0 (k .events) (in-order .events) (all-weaker below (k .events) event-rows);
+      bits = p .most;
+      place = p .within .from;
+      room = omega (arith, p .within .from, p .within .upto);
+      ready = rises-events (d .id) (2 ^ d .bits) 0 (k .events) (given .events-rise) (all-weaker below (k .events) (given .owned));
     }
 
       where
-        below : (e : Event) → (hasDevice (e .device) k ≡ true) × (e .event < 2 ^ deviceOf (e .device) k .bits)
-            → e .device ≡ d .id → (0 ≤ e .event) × (e .event < 2 ^ d .bits)
-        below e r f = (omega arith, subst (λ (x : Device). e .event < 2 ^ x .bits) (ap (λ (i : ℕ). deviceOf i k) f ∙ q) (r .1))
+        below : (e : Event) → Owned (k .devices) e → e .device ≡ d .id → (0 ≤ e .event) × (e .event < 2 ^ d .bits)
+        below e w f =
+            let q : w .device ≡ d = one-of-key deviceKey (k .devices) (given .devices-rise) (w .listed) i (w .id ∙ f) in
+            (omega arith, subst (λ (x : Device). e .event < 2 ^ x .bits) q (w .small))
 
     itts-ready : IttsReady (m .memory .start) len k
     itts-ready = record {
       devices =
-          rises-ready deviceKey 65536 0 (k .devices) (in-order .devices)
-          (all-weaker (λ d p. (omega arith, omega (arith, p .id, sound-devices m sound .most))) (k .devices) device-rows);
-      events = rises-sorted (k .events) (in-order .events) (all-weaker event-small (k .events) event-rows);
-      each = all-both itt-ready (k .devices) device-rows (rises-found deviceKey noDevice (k .devices) (in-order .devices));
+          rises-ready deviceKey 65536 0 (k .devices) (given .devices-rise)
+          (all-weaker (λ d p. (omega arith, omega (arith, p .id, sound-devices m sound .most))) (k .devices) (given .devices));
+      events = rises-sorted (k .events) (given .events-rise) (all-weaker (event-small m k given) (k .events) (given .owned));
+      each = all-of (k .devices) (λ d i. itt-ready d i (all-in (k .devices) (given .devices) i));
     }
 
 -- the same of bytes, with the memory and the tables as they are read from them
@@ -196,13 +112,13 @@ module _ (s : List ℕ) (len : ℕ) (v : Saveable s len) (memory : Memory) (tabl
   tables-read = f
 
   pub devices-low : memory .start ≤ tables .devices .start
-  devices-low = rw (start-read, tables-read) (devices-placed (decode s) (decodeMap s) (v .guest) (v .mapping) (v .placed) .low)
+  devices-low = rw (start-read, tables-read) (devices-placed (decode s) (decodeMap s) (v .guest) (v .mapping) (v .placed) .from)
 
   pub devices-few : tables .devices .pages ≤ 128
   devices-few = rw tables-read (sound-devices (decode s) (v .guest) .most)
 
   pub collections-low : memory .start ≤ tables .collections .start
-  collections-low = rw (start-read, tables-read) (collections-placed (decode s) (decodeMap s) (v .guest) (v .mapping) (v .placed) .low)
+  collections-low = rw (start-read, tables-read) (collections-placed (decode s) (decodeMap s) (v .guest) (v .mapping) (v .placed) .from)
 
   pub collections-few : tables .collections .pages ≤ 128
   collections-few = rw tables-read (sound-collections (decode s) (v .guest) .most)

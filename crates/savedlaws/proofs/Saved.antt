@@ -6,7 +6,6 @@ use mathlib.Core.Bool.{true}
 use mathlib.Core.List.{List, [], _∷_, map}
 use lib.ListN.{length, getD}
 use Rattle.lists.proofs.All.{All, more}
-use Rattle.words.proofs.Bytes.{Bytes}
 use Rattle.areas.specs.declared.Area.{Area}
 use Rattle.areas.specs.Area.{inside}
 use Rattle.guest.specs.Machine.{Machine}
@@ -18,11 +17,11 @@ use Rattle.mapping.specs.Commands.{deviceEntries, tableAreas}
 use Rattle.mapping.specs.MapRules.{isPlaced, mapRules}
 use Rattle.tables.specs.Bytes.{areaBytes, deviceTable, collectionTable, ittTable}
 use Rattle.tables.specs.Saved.{eventsOf, savedDevice, savedEvent, savedCollection, tableOf, savedItts, savedMemory}
-use Rattle.savedlaws.proofs.Member.{all-of, all-weaker, all-first, all-rest, all-map, map-all}
+use Rattle.savedlaws.proofs.Member.{all-weaker, all-first, all-rest, all-map, map-all}
 use Rattle.savedlaws.proofs.Parts.{Ok, ok, placed-ok}
 use Rattle.savedlaws.proofs.Places.{devices-inside, collections-inside, within}
-use Rattle.savedlaws.proofs.Writes.{Holds, Write, Fits, written, written-length, written-other, written-holds, written-bytes}
-use Rattle.savedlaws.proofs.Entries.{length-tableOf, bytes-tableOf}
+use Rattle.savedlaws.proofs.Writes.{Holds, Write, Fits, written, written-length, written-other, written-holds}
+use Rattle.savedlaws.proofs.Entries.{length-tableOf}
 
 -- a save as writes
 abbrev ittWrite : List Event → Device → Write
@@ -53,14 +52,6 @@ itt-areas es (d ∷ ds) = ap (λ (l : List Area). ittArea d ∷ l) (itt-areas es
 table-areas : (m : Machine) (k : Mapped) → map (λ w. w .area) (tableWrites m k) ≡ tableAreas m (k .devices)
 unfolding tableAreas
 table-areas m k = rw (itt-areas (k .events) (k .devices))
-
-pub saved-bytes : (m : Machine) (k : Mapped) (mem : List ℕ) → Bytes mem → Bytes (savedMemory m k mem)
-saved-bytes m k mem b =
-    rw (saved-written m k mem)
-    (written-bytes (m .memory .start) (tableWrites m k) mem
-    (more (bytes-tableOf _ _) (more (bytes-tableOf _ _)
-    (all-map (ittWrite (k .events)) (k .devices) (all-of (k .devices) (λ d i. bytes-tableOf _ _)))))
-    b)
 
 module _ (m : Machine) (k : Mapped) (mem : List ℕ) (sound : rules m ≡ true) (placed : isPlaced m ≡ true) (mapped : mapRules m k ≡ true) (size : length mem ≡ m .memory .length) where
   -- each write fits memory and fills its area

@@ -1,18 +1,17 @@
 -- Restore: "Faults are met in this order", the first gives the number.
-use Prim.Native.Nat.{ℕ, zero, suc, _+_, _*_, _/_, _^_}
-use mathlib.Core.Bool.{Bool, true, false, _&&_}
+use Prim.Native.Nat.{ℕ, zero, suc, _+_, _/_}
+use mathlib.Core.Bool.{_&&_}
 use mathlib.Core.List.{List, [], _∷_, _++_}
 use lib.ListN.{length}
-use lib.Dec.{ltb, leb, eqb}
+use lib.Dec.{ltb, leb}
 use Rattle.lists.specs.Rows.{choose}
 use Rattle.areas.specs.Area.{inside, strikes}
 use Rattle.entries.specs.Device.{deviceOf}
-use Rattle.entries.specs.Collection.{isCollection, collectionOf}
+use Rattle.entries.specs.Collection.{isCollection}
 use Rattle.entries.specs.Event.{eventOf}
 use Rattle.guest.specs.Machine.{Machine}
 use Rattle.rules.specs.Rules.{memoryArea}
 use Rattle.mapping.specs.declared.Device.{Device}
-use Rattle.mapping.specs.declared.Collection.{Collection}
 use Rattle.mapping.specs.declared.Event.{Event}
 use Rattle.mapping.specs.Mapped.{Mapped, empty, collectionKey, placeOf, insertedAt, ittArea}
 use Rattle.mapping.specs.Commands.{tableAreas, hasCollection, withCollections, withDevices, withEvents}

@@ -1,12 +1,11 @@
 -- Words that were stored are read again.
 use Prim.Native.Nat.{ℕ, zero, suc, _+_, _*_, _^_, _<_}
 use native.Mathlib.Nat.{not-suc-le-zero, le-of-suc-le-suc, suc-mul, zero-mul, add-comm}
-use native.Mathlib.Omega.{arith}
-use mathlib.Core.Path.{_≡_, refl, sym, ap, _∙_}
+use mathlib.Core.Path.{_≡_, _∙_}
 use mathlib.Core.List.{List, [], _∷_, _++_, append-assoc}
-use lib.ListN.{length, getD, take, drop}
+use lib.ListN.{length, getD}
 use lib.Seq.{take-at, drop-append-add}
-use Rattle.lists.proofs.All.{All, none, more}
+use Rattle.lists.proofs.All.{All, more}
 use Rattle.words.specs.Words.{leAt, bytesOf, bytesAll}
 use Rattle.words.proofs.Laws.{length-bytesOf, le-bytesOf}
 

@@ -1,14 +1,14 @@
 -- Laws of little endian numbers and of tables of rows.
 use Prim.Native.Nat.{ℕ, zero, suc, _+_, _-_, _*_, _/_, _%_, _^_, _≤_, _<_}
-use native.Mathlib.Nat.{zero-add, suc-add, add-zero, mul-comm, mul-assoc, add-mul, add-assoc, mod-add-div', pow-suc, pow-succ', div-div-eq-div-mul, div-one, le-of-suc-le-suc, not-suc-le-zero, div-lt-iff-lt-mul}
+use native.Mathlib.Nat.{zero-add, suc-add, add-zero, mul-assoc, add-mul, add-assoc, mod-add-div', pow-suc, pow-succ', div-div-eq-div-mul, div-one, div-lt-iff-lt-mul}
 use native.Mathlib.Numerals.{add-one}
 use native.Mathlib.Omega.{arith}
-use mathlib.Core.Path.{_≡_, refl, sym, ap, _∙_, subst}
+use mathlib.Core.Path.{_≡_, refl, sym, ap, _∙_}
 use mathlib.Core.List.{List, [], _∷_, _++_, append-assoc, append-nil}
 use lib.ListN.{length, getD, set, take, drop, length-append, length-take, length-drop, take-append-drop}
-use lib.Seq.{take-all, take-suc-set, take-nil, take-take, drop-length, set-split, take-add, drop-drop, take-suc, drop-cons, length-take-le, take-at, drop-at, drop-append-add, getD-drop, drop-append-seam}
+use lib.Seq.{take-all, take-suc-set, take-nil, take-take, set-split, take-add, drop-drop, drop-cons, length-take-le, take-at, drop-at, drop-append-add}
 use lib.Dec.{lit<}
-use Rattle.words.specs.Words.{le, leAt, bytesOf, putAt, rowsOf, bytesAll, Read}
+use Rattle.words.specs.Words.{le, leAt, bytesOf, putAt, Read}
 
 -- ---- one number
 
@@ -86,10 +86,6 @@ pub leAt-drop : (s : List ℕ) (at k n : ℕ) → leAt (drop at s) k n ≡ leAt 
 unfolding leAt
 leAt-drop s at k n = rw drop-drop
 
-pub leAt-here : (s : List ℕ) (at n : ℕ) → leAt (drop at s) 0 n ≡ leAt s at n
-unfolding leAt
-leAt-here s at n = refl
-
 -- one store right after another
 pub put-next : (s t u : List ℕ) (at n : ℕ) (xs ys : List ℕ) → length xs ≡ n → at + n ≤ length s → t ≡ putAt s at xs → u ≡ putAt t (at + n) ys → u ≡ putAt s at (xs ++ ys)
 put-next s t u at n xs ys l h p q =
@@ -100,10 +96,6 @@ put-next s t u at n xs ys l h p q =
 pub putAt-none : (s : List ℕ) (at : ℕ) → putAt s at [] ≡ s
 unfolding putAt
 putAt-none s at = rw (add-zero, append-nil) (take-append-drop at s)
-
-pub putAt-whole : (s xs : List ℕ) → length xs ≡ length s → putAt s 0 xs ≡ xs
-unfolding putAt
-putAt-whole s xs l = rw (zero-add, l, drop-length) (append-nil xs)
 
 -- a number inside a part
 pub leAt-in : (s : List ℕ) (at z off n : ℕ) → off + n ≤ z → leAt (take z (drop at s)) off n ≡ leAt s (at + off) n

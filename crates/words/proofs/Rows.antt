@@ -1,11 +1,10 @@
 -- Tables of rows of z bytes: the loops that load and store them, and the way back.
 use Prim.Native.Nat.{ℕ, zero, suc, _+_, _-_, _*_, _≤_, _<_}
-use native.Mathlib.Nat.{zero-add, suc-mul, add-comm, le-of-suc-le-suc, not-suc-le-zero, zero-mul, mul-le-mul-right}
+use native.Mathlib.Nat.{suc-mul, add-comm, le-of-suc-le-suc, not-suc-le-zero, zero-mul, mul-le-mul-right}
 use native.Mathlib.Numerals.{add-one}
 use native.Mathlib.Omega.{arith}
-use mathlib.Core.Path.{_≡_, refl, sym, ap, _∙_, subst}
+use mathlib.Core.Path.{_≡_, refl, sym, ap, _∙_}
 use mathlib.Core.List.{List, [], _∷_, _++_, append-assoc, append-nil}
-use mathlib.Core.Logic.{_≢_, ⊎-elim}
 use lib.ListN.{length, getD, set, take, drop, length-append, length-set}
 use lib.Seq.{drop-drop, take-suc, take-at, drop-at, ext-getD, getD-take, getD-set-same, getD-set-other, length-take-le}
 use Rattle.lists.proofs.All.{All, none, more}

@@ -12,6 +12,8 @@ mod numbers;
 mod restore;
 #[cfg(feature = "its")]
 mod save;
+#[cfg(feature = "its")]
+mod sound;
 
 use crate::model::Model;
 use crate::report::{Kind, Report};
@@ -40,6 +42,8 @@ pub fn run(report: &mut Report) {
         run_one(&mut Library::new(&vec![0x5a; Library::len()]), Kind::DirectedLibrary, name, body, report);
         run_one(&mut Model::default(), Kind::DirectedModel, name, body, report);
     }
+    #[cfg(feature = "its")]
+    sound::run(report);
 }
 
 /// The cases once more, on the library and the model at once: for a trace.
@@ -49,6 +53,8 @@ pub fn run_both(report: &mut Report) {
         let mut both = Both { library, model: Model::default() };
         run_one(&mut both, Kind::DirectedLibrary, name, body, report);
     }
+    #[cfg(feature = "its")]
+    sound::run(report);
 }
 
 fn run_one(side: &mut dyn Side, kind: Kind, name: &str, body: fn(&mut Case), report: &mut Report) {

@@ -2,6 +2,7 @@
 //! (unknown name; width; not ready; running; then what each section lists).
 
 use super::answer::{refuse_if, Answer, Refusal};
+use super::banks::fresh_shared;
 use super::frames::Base;
 use super::guest::Guest;
 use crate::call::Device;
@@ -152,11 +153,13 @@ impl Guest {
     }
 
     /// Group 3: 64 to 1,024 in steps of 32, else -22; then -16 if set before or after INIT.
+    /// The shared banks are fresh with it: no call can have changed one yet, but a state taken over from bytes may differ.
     fn set_count(&mut self, number: u64) -> Answer {
         refuse_if(number < 64 || number > 1024 || number % 32 != 0, Refusal::Invalid)?;
         refuse_if(self.count_set || self.initialised, Refusal::Busy)?;
         self.count = number as u32;
         self.count_set = true;
+        self.shared = fresh_shared(self.count);
         Ok(0)
     }
 

@@ -29,6 +29,11 @@ pub fn fresh_private() -> [Irq; 32] {
     std::array::from_fn(|intid| Irq { edge: (intid as u32) < SGIS, ..Irq::default() })
 }
 
+/// The shared banks of a guest with so many interrupts, all 0.
+pub fn fresh_shared(count: u32) -> Vec<Irq> {
+    vec![Irq::default(); count as usize - 32]
+}
+
 /// Bit n of a word tells of the n-th interrupt of a bank.
 pub fn word_of(irqs: &[Irq], part: fn(&Irq) -> bool) -> u32 {
     irqs.iter().enumerate().map(|(n, irq)| (part(irq) as u32) << n).sum()

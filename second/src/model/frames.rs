@@ -1,7 +1,6 @@
 //! Section "VCPUs and frames": bases, regions, INIT and the place of each redistributor.
 
 use super::answer::{refuse_if, Answer, Refusal};
-use super::banks::Irq;
 use super::guest::{Area, Guest, REGION_LIMIT};
 
 /// Bases are multiples of 65,536.
@@ -140,7 +139,6 @@ impl Guest {
         refuse_if(self.frames.distributor.is_none(), Refusal::NotReady)?;
         refuse_if(!self.redistributors_fit(), Refusal::NotReady)?;
         self.initialised = true;
-        self.shared = vec![Irq::default(); self.count as usize - 32];
         Ok(0)
     }
 

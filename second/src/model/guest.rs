@@ -1,7 +1,7 @@
 //! Section "What the box holds": the guest, its limits and set-up.
 
 use super::answer::{refuse_if, Refusal};
-use super::banks::{fresh_private, Irq};
+use super::banks::{fresh_private, fresh_shared, Irq};
 use super::frames::Frames;
 
 pub const PAGE: u64 = 4096;
@@ -27,7 +27,6 @@ impl Area {
         self.start < other.end && other.start < self.end
     }
 
-    #[cfg(feature = "its")]
     pub fn inside(&self, other: &Area) -> bool {
         other.start <= self.start && self.end <= other.end
     }
@@ -76,7 +75,7 @@ impl Guest {
             running: false,
             count: FRESH_COUNT,
             count_set: false,
-            shared: Vec::new(),
+            shared: fresh_shared(FRESH_COUNT),
             status: 0,
             #[cfg(feature = "its")]
             its: Default::default(),

@@ -1,22 +1,75 @@
-//! Damaged states. Start on a copy tells whether bytes are sound. On bytes that are not, every call but set-up is -22;
-//! on bytes that are, whatever they mean, calls answer listed numbers, refusals change nothing and soundness is kept.
+//! Damaged states. The judge (`state/sound.rs`) says by the layout alone whether the bytes are sound. Where they are not, every
+//! call but set-up is -22; where they are, the model takes the guest over and goes on with it beside the library.
 
-use super::calls;
-use super::pair::{probe, Pair};
-use crate::call::{Call, ITS_STEPS};
+use super::pair::Pair;
+use super::{calls, spoil, taken};
+use crate::call::{Call, Device};
+use crate::model::Model;
 use crate::sides::{Library, Side};
+use crate::state::sound::{first_broken, CLAUSES};
+use crate::state::{decode, layout};
 use crate::trace;
 
-pub fn damaged(pair: &mut Pair) {
-    if !pair.stands() {
-        return;
+/// What came of the damaged states, and how many calls were compared on them.
+pub struct Tally {
+    pub sound: u64,
+    /// Not sound, by the first clause that is broken.
+    pub first: [u64; CLAUSES.len()],
+    /// States on which every kind of call was refused.
+    pub refused: u64,
+    /// States that the model took over.
+    pub taken: u64,
+    pub calls: u64,
+}
+
+impl Default for Tally {
+    fn default() -> Tally {
+        Tally { sound: 0, first: [0; CLAUSES.len()], refused: 0, taken: 0, calls: 0 }
     }
-    for _ in 0..4 {
-        let mut bytes = pair.library.state.content().to_vec();
-        let what = spoil(pair, &mut bytes);
-        if let Err(note) = check(pair, &bytes) {
-            pair.differ(&format!("on a copy of the state with {what}: {note}"));
+}
+
+impl Tally {
+    pub fn unsound(&self) -> u64 {
+        self.first.iter().sum()
+    }
+
+    pub fn add(&mut self, other: &Tally) {
+        self.sound += other.sound;
+        self.refused += other.refused;
+        self.taken += other.taken;
+        self.calls += other.calls;
+        for (n, count) in other.first.iter().enumerate() {
+            self.first[n] += count;
+        }
+    }
+
+    pub fn tell(&self) {
+        let (sound, unsound) = (self.sound, self.unsound());
+        println!(
+            "damage: {} states judged, {sound} sound and {unsound} not; {} taken over, {} refused by every call",
+            sound + unsound,
+            self.taken,
+            self.refused
+        );
+        let told: Vec<String> = CLAUSES.iter().zip(self.first).map(|(clause, n)| format!("{} {n}", clause.0)).collect();
+        println!("damage: first broken: {}", told.join(", "));
+    }
+}
+
+/// States judged at a time; of each verdict the first few are gone into.
+const AT_A_TIME: u64 = 24;
+const GONE_INTO: u64 = 2;
+
+pub fn damaged(pair: &mut Pair) {
+    let mut left = [GONE_INTO; 2];
+    for _ in 0..AT_A_TIME {
+        if !pair.stands() {
             return;
+        }
+        let mut bytes = pair.library.state.content().to_vec();
+        let what = spoil::spoil(&mut pair.rng, &mut bytes);
+        if let Err(note) = check(pair, &bytes, &mut left) {
+            pair.differ(&format!("on a copy of the state with {what}: {note}"));
         }
     }
 }
@@ -25,61 +78,61 @@ pub fn damaged(pair: &mut Pair) {
 pub fn plain_junk(pair: &mut Pair) {
     for byte in [0xff, 0, 1, 0x80, 0x55] {
         let bytes = vec![byte; Library::len()];
-        if let Err(note) = check(pair, &bytes) {
+        if let Err(note) = check(pair, &bytes, &mut [1, 1]) {
             pair.differ(&format!("on a state of bytes {byte}: {note}"));
         }
     }
 }
 
-/// Changes some bytes and tells which. Bits are flipped where something stands more often than in zeros.
-fn spoil(pair: &mut Pair, bytes: &mut [u8]) -> String {
-    let rng = &mut pair.rng;
-    let length = bytes.len() as u64;
-    let used: Vec<u64> = (0..length).filter(|at| bytes[*at as usize] != 0).collect();
-    let mut at = rng.below(length);
-    if !used.is_empty() && rng.one_in(2) {
-        at = (rng.pick(&used) + rng.below(3)).saturating_sub(1).min(length - 1);
+/// Judges the bytes and compares that with what the library says of them.
+fn check(pair: &mut Pair, bytes: &[u8], left: &mut [u64; 2]) -> Result<(), String> {
+    let first = first_broken(bytes);
+    agree(bytes, first)?;
+    let enough = &mut left[first.is_some() as usize];
+    let more = *enough > 0;
+    *enough = enough.saturating_sub(1);
+    match first {
+        None => pair.tally.sound += 1,
+        Some(clause) => pair.tally.first[clause] += 1,
     }
-    match rng.below(8) {
-        0..=3 => {
-            let bit = rng.below(8);
-            bytes[at as usize] ^= 1 << bit;
-            format!("bit {bit} of byte {at} flipped")
+    match (first, more) {
+        (_, false) => Ok(()),
+        (None, true) => {
+            pair.tally.taken += 1;
+            let guest = decode::take_over(bytes).expect("judged to be sound");
+            pair.tally.calls += taken::go_on(pair.rng.next(), guest, bytes)?;
+            Ok(())
         }
-        4 => {
-            bytes[at as usize] = rng.pick(&[0, 1, 0x7f, 0x80, 0xff]);
-            format!("byte {at} replaced by {}", bytes[at as usize])
-        }
-        5 => {
-            let at = at & !7;
-            let end = (at + 8).min(length);
-            bytes[at as usize..end as usize].fill(rng.pick(&[0, 0xff]));
-            format!("bytes {at} to {end} filled")
-        }
-        6 => {
-            let end = (at + rng.between(1, 64)).min(length);
-            rng.fill(&mut bytes[at as usize..end as usize]);
-            format!("bytes {at} to {end} at random")
-        }
-        _ => {
-            rng.fill(bytes);
-            "all bytes at random".into()
+        (Some(_), true) => {
+            pair.tally.refused += 1;
+            pair.tally.calls += all_refused(pair, bytes)?;
+            Ok(())
         }
     }
 }
 
-fn check(pair: &mut Pair, bytes: &[u8]) -> Result<(), String> {
-    match probe(bytes) {
-        -22 => all_refused(pair, bytes),
-        0 | -6 => stays_sound(pair, bytes),
-        other => Err(format!("start answers {other}")),
+/// The library says the same of the bytes. Group 3 can be asked for at any time: its get has no -22 of its own.
+pub fn agree(bytes: &[u8], first: Option<usize>) -> Result<(), String> {
+    let call = Call::Get { device: Device::Vgic, group: 3, attribute: 0 };
+    let (mut lent, mut complaints) = (vec![0x77; 4], Vec::new());
+    trace::asked(bytes, &call, &lent);
+    let (verdict, want, after) = match first {
+        None => ("no rule is broken".into(), 0, (layout::IRQS.get(bytes) as u32).to_le_bytes().to_vec()),
+        Some(clause) => (format!("\"{}\" is broken", CLAUSES[clause].0), -22, lent.clone()),
+    };
+    trace::expected(want, &after, bytes);
+    let answer = Library::new(bytes).call(&call, &mut lent, &mut complaints);
+    if answer != want || lent != after {
+        return Err(format!("{verdict}, and a get of group 3 answers {answer} with {lent:x?}"));
     }
+    complaints.into_iter().next().map_or(Ok(()), Err)
 }
 
-/// Before anything else, an unknown name too.
-fn all_refused(pair: &mut Pair, bytes: &[u8]) -> Result<(), String> {
+/// Every kind of call is -22, before anything else, an unknown name too; set-up alone looks at no byte.
+pub fn all_refused(pair: &mut Pair, bytes: &[u8]) -> Result<u64, String> {
     let mut list = calls::each_kind(pair);
     pair.rng.shuffle(&mut list);
+    let made = list.len() as u64 + 1;
     for (call, mut lent) in list {
         let mut library = Library::new(bytes);
         let mut complaints = Vec::new();
@@ -87,51 +140,23 @@ fn all_refused(pair: &mut Pair, bytes: &[u8]) -> Result<(), String> {
         trace::expected(-22, &lent, bytes);
         let answer = library.call(&call, &mut lent, &mut complaints);
         if answer != -22 {
-            return Err(format!("start is -22, but {call:x?} answers {answer}"));
+            return Err(format!("the state breaks a rule, but {call:x?} answers {answer}"));
         }
         if let Some(complaint) = complaints.first() {
             return Err(format!("{call:x?}: {complaint}"));
         }
     }
-    set_up_heals(pair, bytes)
+    set_up_heals(pair, bytes)?;
+    Ok(made)
 }
 
-/// Set-up tests the length only: it makes sound bytes out of any.
+/// Set-up tests the length only: it makes a fresh guest out of any bytes.
 fn set_up_heals(pair: &mut Pair, bytes: &[u8]) -> Result<(), String> {
-    let mut library = Library::new(bytes);
-    let mut complaints = Vec::new();
+    let mut both = (Model::default(), Library::new(bytes));
     let setup = calls::good_setup(pair);
-    trace::asked(bytes, &setup, &[]);
-    let answer = library.call(&setup, &mut [], &mut complaints);
-    trace::expected(0, &[], library.state.content());
-    if answer != 0 {
-        return Err(format!("start is -22, and set-up answers {answer}"));
+    let answer = super::compare(&mut both.0, &mut both.1, &setup, vec![])?.0;
+    match answer {
+        0 => Ok(()),
+        _ => Err(format!("the state breaks a rule, and {setup:x?} answers {answer}")),
     }
-    match probe(library.state.content()) {
-        -6 => Ok(()),
-        other => Err(format!("start after set-up answers {other}")),
-    }
-}
-
-fn stays_sound(pair: &mut Pair, bytes: &[u8]) -> Result<(), String> {
-    let mut library = Library::new(bytes);
-    for _ in 0..12 {
-        let (call, mut lent) = calls::any(pair);
-        if call.is_its_step(&lent) && !ITS_STEPS {
-            continue;
-        }
-        let mut complaints = Vec::new();
-        let answer = library.call(&call, &mut lent, &mut complaints);
-        if let Some(complaint) = complaints.first() {
-            return Err(format!("{call:x?}: {complaint}"));
-        }
-        if matches!(call, Call::Pending { .. }) && answer > 1 {
-            return Err(format!("{call:x?} answers {answer}"));
-        }
-        let after = probe(library.state.content());
-        if after != 0 && after != -6 {
-            return Err(format!("sound before {call:x?} (answer {answer}), then start answers {after}"));
-        }
-    }
-    Ok(())
 }

@@ -41,7 +41,7 @@ fn set_up(pair: &mut Pair) {
 }
 
 /// The INTIDs and VCPUs that the sequence comes back to: an SGI, PPIs, neighbours in a shared bank, one near the count.
-fn draw_focus(pair: &mut Pair) {
+pub fn draw_focus(pair: &mut Pair) {
     let count = pair.guest().count as u64;
     let vcpus = pair.guest().vcpus.len() as u64;
     let rng = &mut pair.rng;

@@ -13,10 +13,19 @@ mod observe;
 mod pair;
 mod pick;
 mod plan;
+mod spoil;
+mod taken;
 
 use crate::report::{Kind, Report};
+use crate::sides::Library;
+use crate::state::sound::CLAUSES;
+#[cfg(feature = "its")]
+pub use damage::all_refused;
+use damage::Tally;
 pub use pair::compare;
-use pair::Pair;
+pub use pair::Pair;
+#[cfg(feature = "its")]
+pub use taken::each_kind;
 
 /// The default number of calls in sequences.
 pub const DEFAULT_CALLS: u64 = 250_000;
@@ -29,6 +38,7 @@ struct Depth {
     initialised: u64,
     full_vcpus: u64,
     full_regions: u64,
+    tally: Tally,
     #[cfg(feature = "its")]
     tables: [u64; 3],
     #[cfg(feature = "its")]
@@ -39,6 +49,7 @@ impl Depth {
     fn count(&mut self, pair: &Pair) {
         self.sequences += 1;
         self.calls += pair.step;
+        self.tally.add(&pair.tally);
         // A difference at the very first set-up leaves no guest.
         let Some(guest) = &pair.model.guest else { return };
         self.initialised += guest.initialised as u64;
@@ -71,6 +82,7 @@ impl Depth {
             self.full_mappings[1],
             self.full_mappings[2]
         );
+        self.tally.tell();
     }
 }
 
@@ -82,6 +94,22 @@ pub fn run(seed: u64, calls: u64, hunt: bool, report: &mut Report) {
         depth.count(&one(number, false, report));
     }
     depth.tell(seed);
+    if cfg!(feature = "its") && calls >= DEFAULT_CALLS && !hunt {
+        check_reach(&depth.tally, report);
+    }
+}
+
+/// At the default budget every clause must have been the first broken one, and both verdicts must be common: otherwise the
+/// damage has lost its aim.
+fn check_reach(tally: &Tally, report: &mut Report) {
+    let never = CLAUSES.iter().zip(tally.first).filter(|(_, count)| *count == 0).map(|(clause, _)| clause.0);
+    let (sound, all) = (tally.sound, tally.sound + tally.unsound());
+    let few = (5 * sound.min(all - sound) < all).then_some("one of the two verdicts");
+    let missed: Vec<&str> = never.chain(few).collect();
+    match missed.is_empty() {
+        true => report.pass(1),
+        false => report.fail(Kind::Random, "damage", &format!("not reached often enough: {}", missed.join(", "))),
+    }
 }
 
 /// Runs one sequence again, telling of each step.
@@ -93,10 +121,11 @@ pub fn replay(seed: u64, report: &mut Report) {
 fn one(seed: u64, tell: bool, report: &mut Report) -> Pair {
     let mut pair = Pair::new(seed, tell);
     life::live(&mut pair);
+    let damage = pair.tally.sound + pair.tally.unsound() + pair.tally.calls;
     match &pair.difference {
-        None => report.pass(pair.step),
+        None => report.pass(pair.step + damage),
         Some(note) => {
-            report.pass(pair.step.saturating_sub(1));
+            report.pass((pair.step + damage).saturating_sub(1));
             let title = format!("random seed {seed} step {} (second replay {seed})", pair.step);
             report.fail(Kind::Random, &title, note);
         }
@@ -116,6 +145,10 @@ pub fn states(report: &mut Report) {
     };
     lengths::every_length(&mut pair);
     note("a state of the wrong length is -14, before any other check", &mut pair);
+    let live = std::mem::replace(&mut pair.library, Library::new(&vec![0xff; Library::len()]));
+    lengths::every_length(&mut pair);
+    pair.library = live;
+    note("a wrong length is -14 before bytes that break a rule are -22", &mut pair);
     damage::plain_junk(&mut pair);
     note("bytes that break a rule are -22, before any other check; set-up tests the length only", &mut pair);
 }

@@ -1,4 +1,4 @@
-//! The state's bytes are the library's own affair: here all that can be asked is asked of both sides, on copies.
+//! Whatever the state's bytes say: here all that can be asked is asked of both sides, on copies.
 
 use super::pair::{compare, Pair};
 use crate::call::{Call, Device};

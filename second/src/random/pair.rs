@@ -1,9 +1,11 @@
 //! The library and the model side by side. A sequence stops at the first difference.
 
+use super::damage::{agree, Tally};
 use crate::call::{Call, ITS_STEPS};
 use crate::model::{Guest, Model};
 use crate::rng::Rng;
 use crate::sides::{Library, Side};
+use crate::state::{decode, layout};
 use crate::trace;
 
 pub struct Pair {
@@ -16,6 +18,8 @@ pub struct Pair {
     /// INTIDs and VCPUs that this sequence comes back to, so that calls meet.
     pub intids: Vec<u64>,
     pub vcpus: Vec<u64>,
+    /// What came of the damaged states.
+    pub tally: Tally,
     /// The guest's memory, as the last save left it.
     #[cfg(feature = "its")]
     pub memory: Vec<u8>,
@@ -38,15 +42,26 @@ impl Pair {
             1 => state.fill(0xff),
             _ => rng.fill(&mut state),
         }
-        let library = Library::new(&state);
+        Pair::of(rng, Model::default(), &state, tell)
+    }
+
+    /// A guest that is there already: the model has taken it over from its bytes.
+    pub fn taken(seed: u64, guest: Guest, state: &[u8]) -> Pair {
+        let mut pair = Pair::of(Rng::new(seed), Model { guest: Some(guest) }, state, false);
+        super::life::draw_focus(&mut pair);
+        pair
+    }
+
+    fn of(rng: Rng, model: Model, state: &[u8], tell: bool) -> Pair {
         Pair {
             rng,
-            model: Model::default(),
-            library,
+            model,
+            library: Library::new(state),
             step: 0,
             difference: None,
             intids: Vec::new(),
             vcpus: Vec::new(),
+            tally: Tally::default(),
             #[cfg(feature = "its")]
             memory: Vec::new(),
             #[cfg(feature = "its")]
@@ -101,26 +116,21 @@ impl Pair {
         }
     }
 
-    /// Soundness probe on a copy of the live state: start answers 0 or -6 on sound bytes.
+    /// The live state is sound, by the judge and by the library, and holds the model's guest.
     pub fn probe(&mut self) {
-        let answer = probe(self.library.state.content());
-        if self.stands() && answer != 0 && answer != -6 {
-            self.differ(&format!("the live state is not sound: start on a copy answers {answer}"));
+        let bytes = self.library.state.content();
+        if let Err(note) = agree(bytes, None).and_then(|()| decode::holds(bytes, self.guest())) {
+            self.differ(&format!("the live state: {note}"));
         }
     }
 }
 
-/// What start answers on a copy of these bytes.
-pub fn probe(state: &[u8]) -> i64 {
-    let mut copy = Library::new(state);
-    copy.call(&Call::Start, &mut [], &mut Vec::new())
-}
-
-/// One call on both; the answer and the lent bytes after it, or what differs.
+/// One call on both; the answer and the lent bytes after it, or what differs. After a call that may have changed the state,
+/// its bytes must be sound and hold the model's guest, and those past the rows in use must stand.
 pub fn compare(model: &mut Model, library: &mut Library, call: &Call, lent: Vec<u8>) -> Result<(i64, Vec<u8>), String> {
     trace::asked(library.state.content(), call, &lent);
     let (mut ours, mut theirs) = (lent.clone(), lent);
-    let mut complaints = Vec::new();
+    let (mut complaints, before) = (Vec::new(), library.state.content().to_vec());
     let want = Side::call(model, call, &mut ours, &mut complaints);
     if let Some(complaint) = complaints.first() {
         return Err(format!("{call:x?}: the model: {complaint}"));
@@ -134,6 +144,13 @@ pub fn compare(model: &mut Model, library: &mut Library, call: &Call, lent: Vec<
     }
     if ours != theirs {
         return Err(format!("{call:x?}: lent bytes after it: {}", first_difference(&theirs, &ours)));
+    }
+    if let (true, Some(guest)) = (answer >= 0 && !call.keeps_state(), &model.guest) {
+        let (after, set_up) = (library.state.content(), matches!(call, Call::Setup { .. }));
+        decode::holds(after, guest).map_err(|note| format!("after {call:x?}: {note}"))?;
+        if !layout::idle_stand(&before, after, set_up) {
+            return Err(format!("{call:x?} wrote bytes past the rows in use"));
+        }
     }
     trace::expected(want, &ours, library.state.content());
     Ok((answer, theirs))

@@ -23,9 +23,9 @@ returns-2 c =
 
 returns-3 : tie.Need-returns-3
 returns-3 c =
-    let edge = eq-eqb _ 1 (sym (c .before .before .before .field-get .ensures) ∙ c .before .before .if1 .left) in
+    let latches = eq-eqb _ 1 (sym (c .before .before .before .field-get .ensures) ∙ c .before .before .if1 .left) in
     let low = eq-eqb _ 0 (sym (c .before .field-get2 .ensures) ∙ c .if2 .left) in
-    rw (edge, low)
+    rw (latches, low)
 
 pub rises-spec : {M : Type 1} → statement M
 rises-spec =

@@ -1,12 +1,6 @@
 use borrow.Author.Needs.{needs}
 use Rattle.calls.proofs.answer.Statement.{statement}
 use Rattle.calls.proofs.answer.Tie as tie
-use Rattle.calls.proofs.answer.Reads as reads
-use Rattle.calls.proofs.answer.Lts as lts
-use Rattle.calls.proofs.groups.its_get.Reads as its-get-reads
-use Rattle.calls.proofs.groups.vgic_get.Reads as vgic-get-reads
-use Rattle.frames.proofs.init.redist_base.Reads as redist-base-reads
-use Rattle.irqs.proofs.calls.irq_pending.Reads as irq-pending-reads
 
 enum-known-q : tie.Need-enum-known-q
 enum-known-q c = search needs

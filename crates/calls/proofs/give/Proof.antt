@@ -1,15 +1,10 @@
 use mathlib.Core.Path.{_≡_, _∙_}
 use mir.Syntax.{w64}
 use mir.Val.{toZ, ofZ}
-use borrow.Author.Tests.{eq-eqb, ne-eqb}
 use Rattle.calls.proofs.Laws.{gives-no, gives-yes}
 use borrow.Author.Needs.{needs}
 use Rattle.calls.proofs.give.Statement.{statement}
 use Rattle.calls.proofs.give.Tie as tie
-use Rattle.calls.proofs.give.Reads as reads
-use Rattle.calls.proofs.give.Lts as lts
-use Rattle.answers.proofs.refuse.Reads as refuse-reads
-use Rattle.words.proofs.fill.Reads as fill-reads
 
 refuse-requires : tie.Need-refuse-requires
 refuse-requires c κs = search needs

@@ -1,5 +1,5 @@
 -- `calls::look` meets its contract. Assumes nothing.
-use mathlib.Core.Path.{_≡_, sym, _∙_}
+use mathlib.Core.Path.{sym, _∙_}
 use borrow.Author.Tests.{not-true, not-false}
 use borrow.Author.Needs.{needs}
 use Rattle.calls.proofs.Laws.{parts, box-kept, look-short, look-unsound, look-answers}

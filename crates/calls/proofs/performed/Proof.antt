@@ -1,5 +1,4 @@
 -- `calls::performed` meets its contract. Assumes nothing.
-use borrow.Author.Needs.{needs}
 use Rattle.calls.proofs.Laws.{parts, box-kept, performed-is}
 use Rattle.calls.proofs.performed.Statement.{statement}
 use Rattle.calls.proofs.performed.Tie as tie

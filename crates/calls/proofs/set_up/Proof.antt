@@ -1,17 +1,11 @@
-use mathlib.Core.Path.{_≡_, sym, ap, _∙_}
+use mathlib.Core.Path.{sym, ap, _∙_}
 use Rattle.guest.specs.Machine.{Machine}
 use Rattle.rules.specs.Rules.{memoryOk}
 use borrow.Author.Tests.{not-true, not-false}
-use lib.ListN.{length}
 use Rattle.calls.proofs.Laws.{setup-short, setup-refused, setup-done}
 use borrow.Author.Needs.{needs}
 use Rattle.calls.proofs.set_up.Statement.{statement}
 use Rattle.calls.proofs.set_up.Tie as tie
-use Rattle.calls.proofs.set_up.Reads as reads
-use Rattle.calls.proofs.set_up.Lts as lts
-use Rattle.guest.proofs.Guest.new.Reads as new-reads
-use Rattle.keeps.proofs.memory_ok.Reads as memory-ok-reads
-use Rattle.layout.proofs.store_guest.Reads as store-guest-reads
 
 returns : tie.Need-returns
 returns c = setup-short _ _ _ _ (c .if1 .taken)

@@ -1,16 +1,6 @@
 use borrow.Author.Needs.{needs}
 use Rattle.calls.proofs.step.Statement.{statement}
 use Rattle.calls.proofs.step.Tie as tie
-use Rattle.calls.proofs.step.Reads as reads
-use Rattle.calls.proofs.step.Lts as lts
-use Rattle.calls.proofs.groups.its_set.Reads as its-set-reads
-use Rattle.calls.proofs.groups.vgic_set.Reads as vgic-set-reads
-use Rattle.frames.proofs.vcpus.add_vcpu.Reads as add-vcpu-reads
-use Rattle.frames.proofs.vcpus.set_running.Reads as set-running-reads
-use Rattle.irqs.proofs.calls.irq_clear.Reads as irq-clear-reads
-use Rattle.irqs.proofs.calls.irq_line.Reads as irq-line-reads
-use Rattle.irqs.proofs.calls.irq_set.Reads as irq-set-reads
-use Rattle.irqs.proofs.calls.irq_trigger.Reads as irq-trigger-reads
 
 enum-known-c : tie.Need-enum-known-c
 enum-known-c c = search needs

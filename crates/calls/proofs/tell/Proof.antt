@@ -5,10 +5,6 @@ use borrow.Author.Tests.{eq-eqb, ne-eqb}
 use borrow.Author.Needs.{needs}
 use Rattle.calls.proofs.tell.Statement.{statement}
 use Rattle.calls.proofs.tell.Tie as tie
-use Rattle.calls.proofs.tell.Reads as reads
-use Rattle.calls.proofs.tell.Lts as lts
-use Rattle.answers.proofs.done.Reads as done-reads
-use Rattle.answers.proofs.refuse.Reads as refuse-reads
 
 refuse-requires : tie.Need-refuse-requires
 refuse-requires c κs = search needs

@@ -1,12 +1,7 @@
-use mathlib.Core.Path.{_≡_, _∙_}
 use Rattle.calls.proofs.Laws.{value-four, value-eight, value-none}
 use borrow.Author.Needs.{needs}
 use Rattle.calls.proofs.value_of.Statement.{statement}
 use Rattle.calls.proofs.value_of.Tie as tie
-use Rattle.calls.proofs.value_of.Reads as reads
-use Rattle.calls.proofs.value_of.Lts as lts
-use Rattle.words.proofs.get32.Reads as get32-reads
-use Rattle.words.proofs.get64.Reads as get64-reads
 
 get32-requires : tie.Need-get32-requires
 get32-requires c κs = search needs

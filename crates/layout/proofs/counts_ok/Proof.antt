@@ -1,4 +1,4 @@
-use mathlib.Core.Path.{_≡_, _∙_, sym, ap}
+use mathlib.Core.Path.{_∙_, ap}
 use lib.Dec.{leb}
 use Prim.Native.Nat.{ℕ}
 use borrow.Author.Tests.{lt-leb, le-leb}
@@ -7,38 +7,27 @@ use Rattle.layout.specs.Layout.{countsOk}
 use borrow.Author.Needs.{needs}
 use Rattle.layout.proofs.counts_ok.Statement.{statement}
 use Rattle.layout.proofs.counts_ok.Tie as tie
-use Rattle.layout.proofs.counts_ok.Reads as reads
-use Rattle.layout.proofs.counts_ok.Lts as lts
-use Rattle.layout.proofs.shared_count.Reads as shared-count-reads
-use Rattle.words.proofs.get64.Reads as get64-reads
 
--- src/lib.rt:266:13
 get64-requires : tie.Need-get64-requires
 get64-requires c κs = search needs
 
--- src/lib.rt:267:9
 returns : tie.Need-returns
 unfolding countsOk
 returns c = rw (← c .before .get64 .ensures .is, lt-leb _ _ (c .if1 .taken))
 
--- src/lib.rt:269:13
 get64-requires-2 : tie.Need-get64-requires-2
 get64-requires-2 c κs = search needs
 
--- src/lib.rt:270:9
 returns-2 : tie.Need-returns-2
 unfolding countsOk
 returns-2 c = rw (← c .before .before .before .get64 .ensures .is, le-leb _ _ (c .before .before .if1 .left), ← c .before .get642 .ensures .is, lt-leb _ _ (c .if2 .taken))
 
--- src/lib.rt:272:30
 get64-requires-3 : tie.Need-get64-requires-3
 get64-requires-3 c κs = search needs
 
--- src/lib.rt:272:9
 shared-count-requires : tie.Need-shared-count-requires
 shared-count-requires c κs = search needs
 
--- src/lib.rt:262:1
 returns-3 : tie.Need-returns-3
 unfolding countsOk
 returns-3 c = 

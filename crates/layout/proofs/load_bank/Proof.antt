@@ -4,31 +4,22 @@ use Rattle.layout.specs.Layout.{bankOf}
 use borrow.Author.Needs.{needs}
 use Rattle.layout.proofs.load_bank.Statement.{statement}
 use Rattle.layout.proofs.load_bank.Tie as tie
-use Rattle.layout.proofs.load_bank.Reads as reads
-use Rattle.layout.proofs.load_bank.Lts as lts
-use Rattle.words.proofs.get32.Reads as get32-reads
 
--- src/lib.rt:110:16
 get32-requires : tie.Need-get32-requires
 get32-requires c κs = search needs
 
--- src/lib.rt:111:25
 add-get32 : tie.Need-add-get32
 add-get32 c = search needs
 
--- src/lib.rt:111:16
 get32-requires-2 : tie.Need-get32-requires-2
 get32-requires-2 c κs = search needs
 
--- src/lib.rt:112:27
 add-get32-2 : tie.Need-add-get32-2
 add-get32-2 c = search needs
 
--- src/lib.rt:112:18
 get32-requires-3 : tie.Need-get32-requires-3
 get32-requires-3 c κs = search needs
 
--- src/lib.rt:105:1
 returns : tie.Need-returns
 unfolding bankOf
 returns c = 

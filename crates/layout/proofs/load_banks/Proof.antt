@@ -1,5 +1,4 @@
-use Prim.Native.Nat.{_+_, _*_, _≤_, _-_}
-use native.Mathlib.Omega.{arith}
+use Prim.Native.Nat.{_*_, _-_}
 use mathlib.Core.Path.{_∙_, sym, ap}
 use mathlib.Core.List.{List}
 use Prim.Native.Nat.{ℕ}
@@ -7,7 +6,7 @@ use lib.ListN.{take, drop, length-replicate}
 use lib.Seq.{drop-drop}
 use borrow.Author.Needs.{needs}
 use Rattle.words.proofs.Rows.{Loading, load-start, load-turn, load-end}
-use Rattle.guest.specs.Machine.{noBank, noVcpu, noRegion}
+use Rattle.guest.specs.Machine.{noBank}
 use Rattle.layout.specs.Layout.{bankOf}
 use Rattle.layout.proofs.load_banks.Statement.{statement}
 use Rattle.layout.proofs.load_banks.Tie as tie

@@ -2,35 +2,25 @@ use Rattle.layout.specs.Layout.{controlOf}
 use borrow.Author.Needs.{needs}
 use Rattle.layout.proofs.load_control.Statement.{statement}
 use Rattle.layout.proofs.load_control.Tie as tie
-use Rattle.layout.proofs.load_control.Reads as reads
-use Rattle.layout.proofs.load_control.Lts as lts
-use Rattle.words.proofs.get64.Reads as get64-reads
 
--- src/lib.rt:44:15
 get64-requires : tie.Need-get64-requires
 get64-requires c κs = search needs
 
--- src/lib.rt:45:18
 get64-requires-2 : tie.Need-get64-requires-2
 get64-requires-2 c κs = search needs
 
--- src/lib.rt:46:15
 get64-requires-3 : tie.Need-get64-requires-3
 get64-requires-3 c κs = search needs
 
--- src/lib.rt:47:18
 get64-requires-4 : tie.Need-get64-requires-4
 get64-requires-4 c κs = search needs
 
--- src/lib.rt:48:17
 get64-requires-5 : tie.Need-get64-requires-5
 get64-requires-5 c κs = search needs
 
--- src/lib.rt:49:18
 get64-requires-6 : tie.Need-get64-requires-6
 get64-requires-6 c κs = search needs
 
--- src/lib.rt:39:1
 returns : tie.Need-returns
 unfolding controlOf
 returns c = 

@@ -2,23 +2,16 @@ use Rattle.layout.specs.Layout.{framesOf}
 use borrow.Author.Needs.{needs}
 use Rattle.layout.proofs.load_frames.Statement.{statement}
 use Rattle.layout.proofs.load_frames.Tie as tie
-use Rattle.layout.proofs.load_frames.Reads as reads
-use Rattle.layout.proofs.load_frames.Lts as lts
-use Rattle.layout.proofs.load_frame.Reads as load-frame-reads
 
--- src/lib.rt:68:22
 load-frame-requires : tie.Need-load-frame-requires
 load-frame-requires c κs = search needs
 
--- src/lib.rt:69:17
 load-frame-requires-2 : tie.Need-load-frame-requires-2
 load-frame-requires-2 c κs = search needs
 
--- src/lib.rt:70:14
 load-frame-requires-3 : tie.Need-load-frame-requires-3
 load-frame-requires-3 c κs = search needs
 
--- src/lib.rt:63:1
 returns : tie.Need-returns
 unfolding framesOf
 returns c = λ i. record { distributor = c .before .before .load-frame .ensures i; single = c .before .load-frame2 .ensures i; its = c .load-frame3 .ensures i }

@@ -4,23 +4,16 @@ use Rattle.layout.specs.Layout.{regionOf}
 use borrow.Author.Needs.{needs}
 use Rattle.layout.proofs.load_region.Statement.{statement}
 use Rattle.layout.proofs.load_region.Tie as tie
-use Rattle.layout.proofs.load_region.Reads as reads
-use Rattle.layout.proofs.load_region.Lts as lts
-use Rattle.words.proofs.get64.Reads as get64-reads
 
--- src/lib.rt:100:15
 get64-requires : tie.Need-get64-requires
 get64-requires c κs = search needs
 
--- src/lib.rt:101:25
 add-get64 : tie.Need-add-get64
 add-get64 c = search needs
 
--- src/lib.rt:101:16
 get64-requires-2 : tie.Need-get64-requires-2
 get64-requires-2 c κs = search needs
 
--- src/lib.rt:95:1
 returns : tie.Need-returns
 unfolding regionOf
 returns c = 

@@ -2,19 +2,13 @@ use Rattle.layout.specs.Layout.{tablesOf}
 use borrow.Author.Needs.{needs}
 use Rattle.layout.proofs.load_tables.Statement.{statement}
 use Rattle.layout.proofs.load_tables.Tie as tie
-use Rattle.layout.proofs.load_tables.Reads as reads
-use Rattle.layout.proofs.load_tables.Lts as lts
-use Rattle.layout.proofs.load_table.Reads as load-table-reads
 
--- src/lib.rt:90:18
 load-table-requires : tie.Need-load-table-requires
 load-table-requires c κs = search needs
 
--- src/lib.rt:91:22
 load-table-requires-2 : tie.Need-load-table-requires-2
 load-table-requires-2 c κs = search needs
 
--- src/lib.rt:85:1
 returns : tie.Need-returns
 unfolding tablesOf
 returns c = λ i. record { devices = c .before .load-table .ensures i; collections = c .load-table2 .ensures i }

@@ -4,47 +4,34 @@ use Rattle.layout.specs.Layout.{vcpuOf}
 use borrow.Author.Needs.{needs}
 use Rattle.layout.proofs.load_vcpu.Statement.{statement}
 use Rattle.layout.proofs.load_vcpu.Tie as tie
-use Rattle.layout.proofs.load_vcpu.Reads as reads
-use Rattle.layout.proofs.load_vcpu.Lts as lts
-use Rattle.words.proofs.get32.Reads as get32-reads
 
--- src/lib.rt:121:25
 add-get32 : tie.Need-add-get32
 add-get32 c = search needs
 
--- src/lib.rt:121:16
 get32-requires : tie.Need-get32-requires
 get32-requires c κs = search needs
 
--- src/lib.rt:122:25
 add-get32-2 : tie.Need-add-get32-2
 add-get32-2 c = search needs
 
--- src/lib.rt:122:16
 get32-requires-2 : tie.Need-get32-requires-2
 get32-requires-2 c κs = search needs
 
--- src/lib.rt:123:27
 add-get32-3 : tie.Need-add-get32-3
 add-get32-3 c = search needs
 
--- src/lib.rt:123:18
 get32-requires-3 : tie.Need-get32-requires-3
 get32-requires-3 c κs = search needs
 
--- src/lib.rt:126:19
 get32-requires-4 : tie.Need-get32-requires-4
 get32-requires-4 c κs = search needs
 
--- src/lib.rt:128:26
 add-get32-4 : tie.Need-add-get32-4
 add-get32-4 c = search needs
 
--- src/lib.rt:128:17
 get32-requires-5 : tie.Need-get32-requires-5
 get32-requires-5 c κs = search needs
 
--- src/lib.rt:116:1
 returns : tie.Need-returns
 unfolding vcpuOf
 returns c = 

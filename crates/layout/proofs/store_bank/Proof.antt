@@ -5,35 +5,25 @@ use Rattle.layout.specs.Layout.{bankBytes}
 use borrow.Author.Needs.{needs}
 use Rattle.layout.proofs.store_bank.Statement.{statement}
 use Rattle.layout.proofs.store_bank.Tie as tie
-use Rattle.layout.proofs.store_bank.Reads as reads
-use Rattle.layout.proofs.store_bank.Lts as lts
-use Rattle.words.proofs.put32.Reads as put32-reads
 
--- src/lib.rt:203:5
 put32-requires : tie.Need-put32-requires
 put32-requires c κs = search needs
 
--- src/lib.rt:204:14
 add-put32 : tie.Need-add-put32
 add-put32 c = search needs
 
--- src/lib.rt:204:5
 put32-requires-2 : tie.Need-put32-requires-2
 put32-requires-2 c κs = search needs
 
--- src/lib.rt:205:14
 add-put32-2 : tie.Need-add-put32-2
 add-put32-2 c = search needs
 
--- src/lib.rt:205:5
 put32-requires-3 : tie.Need-put32-requires-3
 put32-requires-3 c κs = search needs
 
--- src/lib.rt:199:1
 same-length : tie.Need-same-length
 same-length c = search needs
 
--- src/lib.rt:199:1
 returns : tie.Need-returns
 unfolding bankBytes
 returns c = 

@@ -4,23 +4,16 @@ use Rattle.words.proofs.Rows.{run-more}
 use borrow.Author.Needs.{needs}
 use Rattle.layout.proofs.store_frames.Statement.{statement}
 use Rattle.layout.proofs.store_frames.Tie as tie
-use Rattle.layout.proofs.store_frames.Reads as reads
-use Rattle.layout.proofs.store_frames.Lts as lts
-use Rattle.layout.proofs.store_three.Reads as store-three-reads
 
--- src/lib.rt:333:5
 store-three-requires : tie.Need-store-three-requires
 store-three-requires c κs = search needs
 
--- src/lib.rt:334:5
 store-three-requires-2 : tie.Need-store-three-requires-2
 store-three-requires-2 c κs = search needs
 
--- src/lib.rt:326:1
 same-length : tie.Need-same-length
 same-length c = search needs
 
--- src/lib.rt:326:1
 returns : tie.Need-returns
 returns c = 
     let p2 = c .before .before in

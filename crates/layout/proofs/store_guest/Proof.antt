@@ -7,34 +7,22 @@ use Rattle.layout.proofs.Stored.{stored-of}
 use borrow.Author.Needs.{needs}
 use Rattle.layout.proofs.store_guest.Statement.{statement}
 use Rattle.layout.proofs.store_guest.Tie as tie
-use Rattle.layout.proofs.store_guest.Reads as reads
-use Rattle.layout.proofs.store_guest.Lts as lts
-use Rattle.layout.proofs.store_banks.Reads as store-banks-reads
-use Rattle.layout.proofs.store_head.Reads as store-head-reads
-use Rattle.layout.proofs.store_regions.Reads as store-regions-reads
-use Rattle.layout.proofs.store_vcpus.Reads as store-vcpus-reads
 
--- src/lib.rt:373:5
 store-banks-requires : tie.Need-store-banks-requires
 store-banks-requires c κs = search needs
 
--- src/lib.rt:374:5
 store-vcpus-requires : tie.Need-store-vcpus-requires
 store-vcpus-requires c κs = search needs
 
--- src/lib.rt:375:5
 store-regions-requires : tie.Need-store-regions-requires
 store-regions-requires c κs = search needs
 
--- src/lib.rt:376:5
 store-head-requires : tie.Need-store-head-requires
 store-head-requires c κs = search needs
 
--- src/lib.rt:359:1
 same-length : tie.Need-same-length
 same-length c = search needs
 
--- src/lib.rt:359:1
 returns : tie.Need-returns
 returns c = 
     let p4 = c .before .before in

@@ -5,39 +5,25 @@ use Rattle.layout.specs.Layout.{memoryWords, controlWords, framesWords, 
 use borrow.Author.Needs.{needs}
 use Rattle.layout.proofs.store_head.Statement.{statement}
 use Rattle.layout.proofs.store_head.Tie as tie
-use Rattle.layout.proofs.store_head.Reads as reads
-use Rattle.layout.proofs.store_head.Lts as lts
-use Rattle.layout.proofs.store_control.Reads as store-control-reads
-use Rattle.layout.proofs.store_frames.Reads as store-frames-reads
-use Rattle.layout.proofs.store_pair.Reads as store-pair-reads
-use Rattle.layout.proofs.store_tables.Reads as store-tables-reads
-use Rattle.layout.proofs.store_three.Reads as store-three-reads
 
--- src/lib.rt:351:5
 store-three-requires : tie.Need-store-three-requires
 store-three-requires c κs = search needs
 
--- src/lib.rt:352:5
 store-control-requires : tie.Need-store-control-requires
 store-control-requires c κs = search needs
 
--- src/lib.rt:353:5
 store-frames-requires : tie.Need-store-frames-requires
 store-frames-requires c κs = search needs
 
--- src/lib.rt:354:5
 store-tables-requires : tie.Need-store-tables-requires
 store-tables-requires c κs = search needs
 
--- src/lib.rt:355:5
 store-pair-requires : tie.Need-store-pair-requires
 store-pair-requires c κs = search needs
 
--- src/lib.rt:347:1
 same-length : tie.Need-same-length
 same-length c = search needs
 
--- src/lib.rt:347:1
 returns : tie.Need-returns
 returns c = 
     let p5 = c .before .before in

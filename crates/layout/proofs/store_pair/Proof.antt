@@ -4,27 +4,19 @@ use Rattle.words.proofs.Rows.{run-one, run-more}
 use borrow.Author.Needs.{needs}
 use Rattle.layout.proofs.store_pair.Statement.{statement}
 use Rattle.layout.proofs.store_pair.Tie as tie
-use Rattle.layout.proofs.store_pair.Reads as reads
-use Rattle.layout.proofs.store_pair.Lts as lts
-use Rattle.words.proofs.put64.Reads as put64-reads
 
--- src/lib.rt:186:5
 put64-requires : tie.Need-put64-requires
 put64-requires c κs = search needs
 
--- src/lib.rt:187:14
 add-put64 : tie.Need-add-put64
 add-put64 c = search needs
 
--- src/lib.rt:187:5
 put64-requires-2 : tie.Need-put64-requires-2
 put64-requires-2 c κs = search needs
 
--- src/lib.rt:182:1
 same-length : tie.Need-same-length
 same-length c = search needs
 
--- src/lib.rt:182:1
 returns : tie.Need-returns
 returns c = 
     let p2 = c .before .before in

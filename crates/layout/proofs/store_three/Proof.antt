@@ -4,35 +4,25 @@ use Rattle.words.proofs.Rows.{run-one, run-more}
 use borrow.Author.Needs.{needs}
 use Rattle.layout.proofs.store_three.Statement.{statement}
 use Rattle.layout.proofs.store_three.Tie as tie
-use Rattle.layout.proofs.store_three.Reads as reads
-use Rattle.layout.proofs.store_three.Lts as lts
-use Rattle.words.proofs.put64.Reads as put64-reads
 
--- src/lib.rt:194:5
 put64-requires : tie.Need-put64-requires
 put64-requires c κs = search needs
 
--- src/lib.rt:195:14
 add-put64 : tie.Need-add-put64
 add-put64 c = search needs
 
--- src/lib.rt:195:5
 put64-requires-2 : tie.Need-put64-requires-2
 put64-requires-2 c κs = search needs
 
--- src/lib.rt:196:14
 add-put64-2 : tie.Need-add-put64-2
 add-put64-2 c = search needs
 
--- src/lib.rt:196:5
 put64-requires-3 : tie.Need-put64-requires-3
 put64-requires-3 c κs = search needs
 
--- src/lib.rt:190:1
 same-length : tie.Need-same-length
 same-length c = search needs
 
--- src/lib.rt:190:1
 returns : tie.Need-returns
 returns c = 
     let p3 = c .before .before in

@@ -5,36 +5,25 @@ use Rattle.layout.specs.Layout.{bankBytes, bankWords, vcpuBytes}
 use borrow.Author.Needs.{needs}
 use Rattle.layout.proofs.store_vcpu.Statement.{statement}
 use Rattle.layout.proofs.store_vcpu.Tie as tie
-use Rattle.layout.proofs.store_vcpu.Reads as reads
-use Rattle.layout.proofs.store_vcpu.Lts as lts
-use Rattle.layout.proofs.store_bank.Reads as store-bank-reads
-use Rattle.words.proofs.put32.Reads as put32-reads
 
--- src/lib.rt:213:5
 put32-requires : tie.Need-put32-requires
 put32-requires c κs = search needs
 
--- src/lib.rt:214:19
 add-store-bank : tie.Need-add-store-bank
 add-store-bank c = search needs
 
--- src/lib.rt:214:5
 store-bank-requires : tie.Need-store-bank-requires
 store-bank-requires c κs = search needs
 
--- src/lib.rt:215:14
 add-put32 : tie.Need-add-put32
 add-put32 c = search needs
 
--- src/lib.rt:215:5
 put32-requires-2 : tie.Need-put32-requires-2
 put32-requires-2 c κs = search needs
 
--- src/lib.rt:208:1
 same-length : tie.Need-same-length
 same-length c = search needs
 
--- src/lib.rt:208:1
 returns : tie.Need-returns
 unfolding bankBytes vcpuBytes
 returns c = 

@@ -1,67 +1,52 @@
-use mathlib.Core.Path.{_≡_}
+use mathlib.Core.Path.{_≡_, refl}
 use mir.Syntax.{w64}
 use mir.Val.{toZ, ofZ}
 use borrow.Author.Tests.{eq-eqb, ne-eqb}
 use borrow.Author.Needs.{needs}
 use Rattle.ritikancha.proofs.rk_its_set.Statement.{statement}
 use Rattle.ritikancha.proofs.rk_its_set.Tie as tie
-use Rattle.ritikancha.proofs.rk_its_set.Reads as reads
-use Rattle.ritikancha.proofs.rk_its_set.Lts as lts
-use Rattle.calls.proofs.apply.Reads as apply-reads
-use Rattle.calls.proofs.run_command.Reads as run-command-reads
-use Rattle.calls.proofs.value_of.Reads as value-of-reads
 
--- src/lib.rt:66:9
 value-of-requires : tie.Need-value-of-requires
 value-of-requires c κs = search needs
 
--- src/lib.rt:68:9
 apply-requires : tie.Need-apply-requires
 apply-requires c κs = search needs
 
--- src/lib.rt:68:9
 same-length : tie.Need-same-length
 same-length c = search needs
 
--- src/lib.rt:68:9
 returns : tie.Need-returns
 returns c = 
     let p = c .before .before in
     let i = p .before .before in
     let t : toZ w64 (ofZ w64 (p .apply .result)) ≡ p .apply .result = search needs in
-    rw (ne-eqb _ _ (i .if1 .taken), ← i .before .value-of .ensures, t) (p .apply .ensures)
+    rw (ne-eqb _ _ (i .if1 .taken), ← i .before .value-of .ensures, t) (record { number = p .apply .ensures .number; state = p .apply .ensures .left; lent = refl })
 
--- src/lib.rt:71:9
 apply-requires-2 : tie.Need-apply-requires-2
 apply-requires-2 c κs = search needs
 
--- src/lib.rt:71:9
 same-length-2 : tie.Need-same-length-2
 same-length-2 c = search needs
 
--- src/lib.rt:71:9
 returns-2 : tie.Need-returns-2
 returns-2 c = 
     let p = c .before .before in
     let i = p .before .before in
     let t : toZ w64 (ofZ w64 (p .apply2 .result)) ≡ p .apply2 .result = search needs in
-    rw (eq-eqb _ _ (i .before .if1 .left), ne-eqb _ _ (i .if2 .taken), ← i .before .before .value-of .ensures, t) (p .apply2 .ensures)
+    rw (eq-eqb _ _ (i .before .if1 .left), ne-eqb _ _ (i .if2 .taken), ← i .before .before .value-of .ensures, t) (record { number = p .apply2 .ensures .number; state = p .apply2 .ensures .left; lent = refl })
 
--- src/lib.rt:73:5
 run-command-requires : tie.Need-run-command-requires
 run-command-requires c κs = search needs
 
--- src/lib.rt:61:1
 same-length-3 : tie.Need-same-length-3
 same-length-3 c = search needs
 
--- src/lib.rt:61:1
 returns-3 : tie.Need-returns-3
 returns-3 c = 
     let p = c .before .before in
     let i = p .before .before in
     let t : toZ w64 (ofZ w64 (p .run-command .result)) ≡ p .run-command .result = search needs in
-    rw (eq-eqb _ _ (i .before .if1 .left), eq-eqb _ _ (i .if2 .left), t) (p .run-command .ensures)
+    rw (eq-eqb _ _ (i .before .if1 .left), eq-eqb _ _ (i .if2 .left), t) (record { number = p .run-command .ensures .number; state = p .run-command .ensures .left; lent = refl })
 
 pub rk-its-set-spec : {M : Type 1} → statement M
 rk-its-set-spec =

@@ -1,13 +1,8 @@
-use mathlib.Core.Path.{_≡_}
 use borrow.Author.Tests.{eq-eqb, ne-eqb}
 use Rattle.calls.specs.Groups.{itsGet}
 use borrow.Author.Needs.{needs}
 use Rattle.calls.proofs.groups.its_get.Statement.{statement}
 use Rattle.calls.proofs.groups.its_get.Tie as tie
-use Rattle.calls.proofs.groups.its_get.Reads as reads
-use Rattle.calls.proofs.groups.its_get.Lts as lts
-use Rattle.frames.proofs.bases.get_its_group0.Reads as get-its-group0-reads
-use Rattle.guest.proofs.told.Reads as told-reads
 
 get-its-group0-requires : tie.Need-get-its-group0-requires
 get-its-group0-requires c κs = search needs

@@ -1,15 +1,9 @@
-use mathlib.Core.Path.{_≡_}
 use borrow.Author.Tests.{eq-eqb, ne-eqb}
 use Rattle.frames.proofs.Steps.{refusing}
 use Rattle.calls.specs.Groups.{itsSet}
 use borrow.Author.Needs.{needs}
 use Rattle.calls.proofs.groups.its_set.Statement.{statement}
 use Rattle.calls.proofs.groups.its_set.Tie as tie
-use Rattle.calls.proofs.groups.its_set.Reads as reads
-use Rattle.calls.proofs.groups.its_set.Lts as lts
-use Rattle.calls.proofs.groups.set_its_group4.Reads as set-its-group4-reads
-use Rattle.frames.proofs.bases.set_its_group0.Reads as set-its-group0-reads
-use Rattle.guest.proofs.refused.Reads as refused-reads
 
 set-its-group0-requires : tie.Need-set-its-group0-requires
 set-its-group0-requires c κs = search needs

@@ -1,14 +1,9 @@
-use mathlib.Core.Path.{_≡_}
 use borrow.Author.Tests.{eq-eqb, ne-eqb}
 use Rattle.frames.proofs.Steps.{refusing}
 use Rattle.calls.specs.Groups.{setGroup4}
 use borrow.Author.Needs.{needs}
 use Rattle.calls.proofs.groups.set_group4.Statement.{statement}
 use Rattle.calls.proofs.groups.set_group4.Tie as tie
-use Rattle.calls.proofs.groups.set_group4.Reads as reads
-use Rattle.calls.proofs.groups.set_group4.Lts as lts
-use Rattle.frames.proofs.init.vgic_init.Reads as vgic-init-reads
-use Rattle.guest.proofs.refused.Reads as refused-reads
 
 refused-requires : tie.Need-refused-requires
 refused-requires c κs = search needs

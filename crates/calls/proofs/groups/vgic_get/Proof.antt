@@ -1,17 +1,8 @@
-use mathlib.Core.Path.{_≡_}
 use borrow.Author.Tests.{eq-eqb, ne-eqb}
 use Rattle.calls.specs.Groups.{vgicGet}
 use borrow.Author.Needs.{needs}
 use Rattle.calls.proofs.groups.vgic_get.Statement.{statement}
 use Rattle.calls.proofs.groups.vgic_get.Tie as tie
-use Rattle.calls.proofs.groups.vgic_get.Reads as reads
-use Rattle.calls.proofs.groups.vgic_get.Lts as lts
-use Rattle.frames.proofs.bases.get_group0.Reads as get-group0-reads
-use Rattle.frames.proofs.vcpus.get_irqs.Reads as get-irqs-reads
-use Rattle.guest.proofs.told.Reads as told-reads
-use Rattle.irqs.proofs.groups.get_group1.Reads as get-group1-reads
-use Rattle.irqs.proofs.groups.get_group5.Reads as get-group5-reads
-use Rattle.irqs.proofs.groups.get_group7.Reads as get-group7-reads
 
 get-group0-requires : tie.Need-get-group0-requires
 get-group0-requires c κs = search needs

@@ -1,19 +1,9 @@
-use mathlib.Core.Path.{_≡_}
 use borrow.Author.Tests.{eq-eqb, ne-eqb}
 use Rattle.frames.proofs.Steps.{refusing}
 use Rattle.calls.specs.Groups.{vgicSet}
 use borrow.Author.Needs.{needs}
 use Rattle.calls.proofs.groups.vgic_set.Statement.{statement}
 use Rattle.calls.proofs.groups.vgic_set.Tie as tie
-use Rattle.calls.proofs.groups.vgic_set.Reads as reads
-use Rattle.calls.proofs.groups.vgic_set.Lts as lts
-use Rattle.calls.proofs.groups.set_group4.Reads as set-group4-reads
-use Rattle.frames.proofs.bases.set_group0.Reads as set-group0-reads
-use Rattle.frames.proofs.vcpus.set_irqs.Reads as set-irqs-reads
-use Rattle.guest.proofs.refused.Reads as refused-reads
-use Rattle.irqs.proofs.groups.set_group1.Reads as set-group1-reads
-use Rattle.irqs.proofs.groups.set_group5.Reads as set-group5-reads
-use Rattle.irqs.proofs.groups.set_group7.Reads as set-group7-reads
 
 set-group0-requires : tie.Need-set-group0-requires
 set-group0-requires c κs = search needs

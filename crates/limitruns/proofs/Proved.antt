@@ -1,0 +1,20 @@
+-- The runs, computed. Assumes nothing.
+use mathlib.Core.Path.{refl}
+use Rattle.step.specs.Run.{Runs, unmade}
+use Rattle.step.proofs.Computed.{computed}
+use Rattle.limitruns.specs.Limits.{mapLimit, restoredDevices, eventLimit, LimitRuns}
+
+by-mapLimit : Runs mapLimit unmade
+unfolding computed
+by-mapLimit = refl
+
+by-restoredDevices : Runs restoredDevices unmade
+unfolding computed
+by-restoredDevices = refl
+
+by-eventLimit : Runs eventLimit unmade
+unfolding computed
+by-eventLimit = refl
+
+pub limit-runs : LimitRuns
+limit-runs = record { commands = by-mapLimit; devices = by-restoredDevices; events = by-eventLimit }

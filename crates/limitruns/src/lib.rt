@@ -1,0 +1,1 @@
+// Computed runs up to the limits of the mapping: definitions and laws, no code.

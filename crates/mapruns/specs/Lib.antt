@@ -1,0 +1,4 @@
+pub mod Mapping
+pub mod Restoring
+pub mod Main
+pub mod Runs

@@ -1,0 +1,1 @@
+// Computed runs of mapping commands, save and restore: definitions and laws, no code.

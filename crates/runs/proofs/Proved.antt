@@ -1,0 +1,49 @@
+-- The runs, computed. Assumes nothing.
+use mathlib.Core.Path.{refl}
+use mathlib.Core.List.{_++_}
+use Rattle.step.specs.Run.{Runs, zeros, unmade}
+use Rattle.step.proofs.Computed.{computed}
+use Rattle.runs.specs.Opening.{wrongLength, noGuest, settingUp}
+use Rattle.runs.specs.Order.{order}
+use Rattle.runs.specs.Frames.{frames}
+use Rattle.runs.specs.Banks.{banks}
+use Rattle.runs.specs.Limits.{limits}
+use Rattle.runs.specs.Runs.{GuestRuns}
+
+by-short : Runs wrongLength (zeros 11399)
+unfolding computed
+by-short = refl
+
+by-over : Runs wrongLength (zeros 11401)
+unfolding computed
+by-over = refl
+
+by-fresh : Runs (noGuest ++ settingUp) unmade
+unfolding computed
+by-fresh = refl
+
+by-order : Runs order unmade
+unfolding computed
+by-order = refl
+
+by-frames : Runs frames unmade
+unfolding computed
+by-frames = refl
+
+by-banks : Runs banks unmade
+unfolding computed
+by-banks = refl
+
+by-limits : Runs limits unmade
+unfolding computed
+by-limits = refl
+
+pub guest-runs : GuestRuns
+guest-runs = record {
+  lengths = (by-short, by-over);
+  fresh = by-fresh;
+  order = by-order;
+  frames = by-frames;
+  banks = by-banks;
+  limits = by-limits;
+}

@@ -1,0 +1,6 @@
+pub mod Opening
+pub mod Order
+pub mod Frames
+pub mod Banks
+pub mod Limits
+pub mod Runs

@@ -1,0 +1,1 @@
+// Computed runs of the guest's calls: definitions and laws, no code.

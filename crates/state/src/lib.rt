@@ -1,0 +1,1 @@
+// What makes a state of the bytes that C lends: definitions and laws, no code.

@@ -1,0 +1,5 @@
+pub mod Step
+pub mod Run
+pub mod Tables
+pub mod Guests
+pub mod Routing

@@ -1,0 +1,1 @@
+// Definitions alone: what each exported call does to lent bytes (specs/Step.antt).

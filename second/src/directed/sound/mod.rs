@@ -1,0 +1,126 @@
+//! Broken bytes are -22 whatever the call: for each clause of `LAYOUT.md` states that break it and no other,
+//! which every call must refuse, and beside each its nearest sound neighbour, which must be taken.
+
+mod bases;
+mod frames;
+mod guest;
+mod its;
+
+use crate::model::Model;
+use crate::random::{self, Pair};
+use crate::report::{Kind, Report};
+use crate::sides::Library;
+use crate::state::decode;
+use crate::state::layout::Field;
+use crate::state::sound::{broken, CLAUSES};
+use bases::{Base, BASES};
+
+/// A number written into a state.
+type Put = (Field, u64);
+
+/// The clause's name, the sound state that is changed, what breaks the clause, and what does not.
+struct Row(&'static str, Base, &'static [Put], &'static [Put]);
+
+fn rows() -> impl Iterator<Item = &'static Row> {
+    guest::ROWS.iter().chain(frames::ROWS).chain(its::ROWS)
+}
+
+/// Sound states in which bytes that nothing reads are changed, or banks that no call has changed yet.
+fn free() -> impl Iterator<Item = &'static (&'static str, Base, &'static [Put])> {
+    guest::FREE.iter().chain(its::FREE)
+}
+
+fn changed(bytes: &[u8], puts: &[Put]) -> Vec<u8> {
+    let mut bytes = bytes.to_vec();
+    puts.iter().for_each(|(field, number)| field.put(&mut bytes, *number));
+    bytes
+}
+
+fn names(clauses: &[usize]) -> Vec<&'static str> {
+    clauses.iter().map(|n| CLAUSES[*n].0).collect()
+}
+
+fn note(report: &mut Report, kind: Kind, title: &str, result: Result<u64, String>) {
+    match result {
+        Ok(_) => report.pass(1),
+        Err(note) => report.fail(kind, title, &note),
+    }
+}
+
+/// The judge says that these clauses are broken and no others.
+fn judged(bytes: &[u8], want: &[&str]) -> Result<u64, String> {
+    let found = names(&broken(bytes));
+    match found == want {
+        true => Ok(1),
+        false => Err(format!("the judge finds {found:?} broken")),
+    }
+}
+
+/// The model takes the guest over, and each kind of call, looked at closely, is the same on both sides.
+fn taken(bytes: &[u8]) -> Result<u64, String> {
+    let guest = decode::take_over(bytes).map_err(|clause| format!("the judge finds \"{clause}\" broken"))?;
+    random::each_kind(7, guest, bytes)
+}
+
+/// Every kind of call on the bytes is -22, numbers being drawn as for the sound state `from`.
+fn refused(from: &[u8], bytes: &[u8]) -> Result<u64, String> {
+    let guest = decode::take_over(from).map_err(|clause| format!("the judge finds \"{clause}\" broken"))?;
+    random::all_refused(&mut Pair::taken(7, guest, from), bytes)
+}
+
+fn sound(title: &str, bytes: &[u8], report: &mut Report) {
+    note(report, Kind::DirectedModel, &format!("directed model: {title}"), judged(bytes, &[]));
+    note(report, Kind::DirectedLibrary, &format!("directed library: {title}"), taken(bytes));
+}
+
+fn run_row(n: usize, row: &Row, from: &[u8], report: &mut Report) {
+    let Row(clause, base, wrong, right) = row;
+    let title = format!("soundness case {n}, \"{clause}\" broken in {base:?} by {wrong:x?}");
+    let bytes = changed(from, wrong);
+    note(report, Kind::DirectedModel, &format!("directed model: {title}"), judged(&bytes, &[clause]));
+    note(report, Kind::DirectedLibrary, &format!("directed library: {title}"), refused(from, &bytes));
+    sound(&format!("soundness case {n}, \"{clause}\" kept in {base:?} by {right:x?}"), &changed(from, right), report);
+}
+
+/// A case stands for each clause.
+fn check_cases(report: &mut Report) {
+    for (clause, _) in CLAUSES {
+        let found = if rows().any(|row| row.0 == *clause) { Ok(1) } else { Err("no case breaks it".into()) };
+        note(report, Kind::DirectedModel, &format!("directed model: the clause \"{clause}\""), found);
+    }
+}
+
+pub fn run(report: &mut Report) {
+    check_cases(report);
+    let mut states = Vec::new();
+    for base in BASES {
+        let built = bases::build(base);
+        let title = format!("directed library: the sound state {base:?}");
+        note(report, Kind::DirectedLibrary, &title, built.as_ref().map(|_| 1).map_err(String::clone));
+        let Ok(bytes) = built else { return };
+        sound(&format!("each kind of call leaves the sound state {base:?} sound"), &bytes, report);
+        states.push(bytes);
+    }
+    for (n, row) in rows().enumerate() {
+        run_row(n, row, &states[row.1 as usize], report);
+    }
+    for (what, base, puts) in free() {
+        sound(&format!("{what}, in {base:?} by {puts:x?}"), &changed(&states[*base as usize], puts), report);
+    }
+    set_ups(report);
+}
+
+/// A fresh guest's bytes are sound and hold the fresh guest, at each limit of set-up and whatever they held before.
+fn set_ups(report: &mut Report) {
+    let top = |width: u64, length: u64| (1u64 << width) - length;
+    let limits = [(36, 0, 4096), (36, top(36, 1 << 30), 1 << 30), (52, top(52, 4096), 4096), (52, 0, 1 << 30)];
+    for (width, start, length) in limits {
+        for before in [0, 0xff, 0x5a] {
+            let (mut model, mut library) = (Model::default(), Library::new(&vec![before; Library::len()]));
+            let call = crate::call::Call::Setup { width, start, length };
+            let made = random::compare(&mut model, &mut library, &call, vec![]).map(|_| 1);
+            note(report, Kind::DirectedLibrary, &format!("directed library: fresh bytes of {call:x?}"), made);
+            sound(&format!("the fresh bytes of {call:x?}"), library.state.content(), report);
+        }
+    }
+}
