@@ -20,7 +20,7 @@ use Rattle.described.specs.Described.{Described}
 use Rattle.tables.specs.Saved.{savedMemory}
 use Rattle.tables.specs.Restored.{Out, fault, found, restored}
 use Rattle.described.proofs.Exact.{described-unique, refused-undescribed, fault-known, exact, restored-ok}
-use Rattle.savedlaws.proofs.Member.{all-weaker}
+use Rattle.lists.proofs.Member.{all-weaker}
 use Rattle.savedlaws.proofs.Local.{Alike, SameIn}
 use Rattle.savedlaws.proofs.Again.{saved-again}
 use Rattle.kept.proofs.Choice.{never, and-both}

@@ -14,9 +14,10 @@ use Rattle.chains.specs.Slots.{Slots, Link}
 use Rattle.tables.specs.Bytes.{entryAt}
 use Rattle.tables.specs.Saved.{nextOf, chainWord, tableOf}
 use Rattle.described.specs.Described.{Chain, Linked}
-use Rattle.savedlaws.proofs.Member.{all-weaker}
+use Rattle.lists.proofs.Member.{all-weaker}
 use Rattle.savedlaws.proofs.Entries.{length-tableOf, entry-tableOf}
-use Rattle.savedlaws.proofs.Rise.{Above, rising-rest, rising-above, rising-first, above-below}
+use Rattle.mapping.proofs.Rise.{Above, rising-rest, rising-above}
+use Rattle.savedlaws.proofs.Rise.{rising-first, above-below}
 
 module _ {A : Type 0} (key : A → ℕ) (word : A → ℕ → ℕ) (cap : ℕ) where
   next-le : (x : A) (l : List A) → nextOf key cap x l ≤ cap

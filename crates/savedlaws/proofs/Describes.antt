@@ -20,7 +20,8 @@ use Rattle.mapping.specs.MapRules.{isPlaced, mapRules}
 use Rattle.tables.specs.Bytes.{deviceCap, eventCap, deviceSlots, eventSlots}
 use Rattle.tables.specs.Saved.{deviceEntry, eventEntry, eventId, eventsOf, savedDevice, savedEvent, tableOf, savedMemory}
 use Rattle.described.specs.Described.{Chain, DeviceFields, Itt, Described}
-use Rattle.savedlaws.proofs.Member.{In, all-in, all-of, all-weaker, all-both}
+use Rattle.lists.proofs.Member.{In, all-in, all-of, all-weaker}
+use Rattle.savedlaws.proofs.Member.{all-both}
 use Rattle.savedlaws.proofs.Parts.{Ok, ok, placed-ok}
 use Rattle.savedlaws.proofs.Places.{collections-set}
 use Rattle.savedlaws.proofs.Saved.{saved-devices, saved-collections, saved-itts}

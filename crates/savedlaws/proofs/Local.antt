@@ -17,7 +17,8 @@ use Rattle.mapping.specs.Commands.{tableAreas}
 use Rattle.mapping.specs.MapRules.{isPlaced, deviceOk, collectionOk, mappingOk}
 use Rattle.tables.specs.Bytes.{areaBytes, deviceTable, collectionTable, ittTable}
 use Rattle.described.specs.Described.{Described}
-use Rattle.savedlaws.proofs.Member.{all-of, all-both, all-first, all-rest, map-all}
+use Rattle.lists.proofs.Member.{all-of, map-all}
+use Rattle.savedlaws.proofs.Member.{all-both, all-first, all-rest}
 use Rattle.savedlaws.proofs.Parts.{ok}
 use Rattle.savedlaws.proofs.Places.{devices-inside, collections-inside, within}
 use Rattle.savedlaws.proofs.Writes.{Holds, part-same}

@@ -19,8 +19,8 @@ use Rattle.mapping.specs.declared.Event.{Event}
 use Rattle.mapping.specs.Mapped.{Mapped, deviceKey, collectionKey, eventKey, rising, ittArea, noDevice}
 use Rattle.mapping.specs.Commands.{deviceEntries, tableAreas, hasDevice, deviceOf, hasCollection}
 use Rattle.mapping.specs.MapRules.{isPlaced, deviceOk, collectionOk, eventOk, mappingOk, mapRules}
-use Rattle.savedlaws.proofs.Member.{In, all-weaker}
-use Rattle.savedlaws.proofs.Rise.{isKey, found-key}
+use Rattle.lists.proofs.Member.{In, all-weaker}
+use Rattle.mapping.proofs.Rise.{isKey, found-key}
 
 -- a collection
 pub record CollectionParts (m : Machine) (c : Collection) : Type 0 where

@@ -23,8 +23,11 @@ use Rattle.mapping.specs.Mapped.{Mapped, deviceKey, collectionKey, eventKey, ri
 use Rattle.tables.specs.Bytes.{deviceCap, eventCap}
 use Rattle.tables.specs.Saved.{deviceEntry, eventEntry, eventId, eventsOf, isOf}
 use Rattle.described.specs.Described.{DeviceFields, EventFields}
-use Rattle.savedlaws.proofs.Member.{In, all-in, all-weaker, all-both, all-kept, kept-pass}
-use Rattle.savedlaws.proofs.Rise.{found-key, rising-kept, rising-once, rising-by}
+use Rattle.lists.proofs.Member.{In, all-in, all-weaker}
+use Rattle.mapping.proofs.Edits.{all-kept, kept-pass}
+use Rattle.savedlaws.proofs.Member.{all-both}
+use Rattle.mapping.proofs.Rise.{found-key, rising-kept}
+use Rattle.savedlaws.proofs.Rise.{rising-once, rising-by}
 use Rattle.savedlaws.proofs.Parts.{CollectionParts, DeviceParts, Fit, Ok}
 use Rattle.savedlaws.proofs.Places.{within}
 use Rattle.savedlaws.proofs.Chains.{Written, Good}

@@ -17,7 +17,8 @@ use Rattle.mapping.specs.Commands.{deviceEntries, tableAreas}
 use Rattle.mapping.specs.MapRules.{isPlaced, mapRules}
 use Rattle.tables.specs.Bytes.{areaBytes, deviceTable, collectionTable, ittTable}
 use Rattle.tables.specs.Saved.{eventsOf, savedDevice, savedEvent, savedCollection, tableOf, savedItts, savedMemory}
-use Rattle.savedlaws.proofs.Member.{all-weaker, all-first, all-rest, all-map, map-all}
+use Rattle.lists.proofs.Member.{all-weaker, all-map, map-all}
+use Rattle.savedlaws.proofs.Member.{all-first, all-rest}
 use Rattle.savedlaws.proofs.Parts.{Ok, ok, placed-ok}
 use Rattle.savedlaws.proofs.Places.{devices-inside, collections-inside, within}
 use Rattle.savedlaws.proofs.Writes.{Holds, Write, Fits, written, written-length, written-other, written-holds}

@@ -17,7 +17,7 @@ use Rattle.areas.specs.declared.Area.{Area}
 use Rattle.areas.specs.Area.{overlaps, struck, strikes, apart, endOf}
 use Rattle.areas.proofs.Tests.{lt-or-ge, and-left, and-right, or-left, or-right}
 use Rattle.areas.proofs.Has.{has, has-cons}
-use Rattle.savedlaws.proofs.Member.{all-weaker, map-all}
+use Rattle.lists.proofs.Member.{all-weaker, map-all}
 
 -- one store
 
