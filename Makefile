@@ -1,6 +1,8 @@
-# make: proves everything, builds the archive and the showing program, and moves a guest in the demo. make check: the whole gate.
+# make: proves everything, builds the archive and the showing program, and moves a guest in the demo. make check: the whole gate, which
+# installs what is missing; every other target only names it.
 .PHONY: all check faults header demo arm bench show audit clean
 all:
+	@scripts/tools rt gcc
 	rt check
 	rt staticlib ritikancha
 	scripts/demo
@@ -10,6 +12,7 @@ check:
 
 # the planted faults that the second program must find
 faults:
+	@scripts/tools rt cargo rustc gcc
 	rt staticlib ritikancha
 	scripts/second faults
 
@@ -26,10 +29,12 @@ arm:
 	scripts/arm
 
 target/staticlib/libritikancha.a: crates.txt $(shell find crates -name '*.rt' -o -name '*.antt')
+	@scripts/tools rt
 	rt staticlib ritikancha
 
 # the showing program held against the second program's, image by image
 show:
+	@scripts/tools rt cargo rustc gcc
 	rt check show
 	rt staticlib ritikancha
 	scripts/second build
@@ -44,6 +49,7 @@ BENCH_CFLAGS = -std=c11 -O2 -Wall -Wextra -Wpedantic -Werror -Iinclude
 BENCH_OBJECTS = $(patsubst bench/%.c,target/bench/%.o,$(wildcard bench/*.c))
 
 bench:
+	@scripts/tools rt gcc
 	rt staticlib ritikancha
 	@$(MAKE) --no-print-directory target/bench/bench
 	@target/bench/bench

@@ -74,7 +74,7 @@ static int64_t both(const struct call *q, const char *what)
     exit(1);
 }
 
-/* The same, where the answer is known from document 01. */
+/* The same, where the answer is known from docs/DEFINITION.md. */
 static void both_answer(int64_t due, const struct call *q, const char *what)
 {
     int64_t answer = both(q, what);
@@ -345,7 +345,7 @@ struct words {
 #define COLLECTIONS_AT(i) (0x80000 + (i) * (size_t)8)
 #define ITT_AT(i) (0x100000 + (i) * (size_t)8)
 
-/* what the tables of guest b hold beside zeros, and the answer to a restore of it: first document 01's samples, then each fault */
+/* what the tables of guest b hold beside zeros, and the answer to a restore of it: first samples of docs/DEFINITION.md, part 12, then each fault */
 static const struct tables {
     const char *what;
     int64_t due;

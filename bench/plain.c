@@ -132,7 +132,7 @@ static void save_collections(const uint8_t *map, uint8_t *table)
     }
 }
 
-/* 0 at the last ID, else the distance to the following one, as far as the field has room */
+/* §7.2: how far the following ID is away, as far as the field has room; 0 where none follows */
 static uint64_t next_field(bool last, uint64_t distance, uint64_t cap)
 {
     if (last)

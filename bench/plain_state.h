@@ -172,7 +172,7 @@ static inline bool add_table(struct areas *a, const uint8_t *table)
     return add_area(a, get64(table + 8), get64(table + 16) * PAGE_BYTES);
 }
 
-/* whether bytes of the right length break no rule of document 01 */
+/* whether bytes of the right length break no rule (§1.8) */
 bool plain_sound(const uint8_t *state);
 
 #endif

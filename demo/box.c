@@ -205,18 +205,20 @@ void write_registers(struct box *box, const struct registers *registers)
     write_status(box, VCPUS, registers->status[VCPUS]);
 }
 
-static bool in_table(uint64_t address)
+static bool is_saved(size_t at)
 {
-    bool in = address >= DEVICE_TABLE && address < COLLECTION_TABLE + 0x1000;
-    for (unsigned i = 0; i < DEVICES; i++)
-        in = in || (address >= devices[i].itt && address < devices[i].itt + (UINT64_C(8) << devices[i].bits));
-    return in;
+    bool saved = false;
+    for (unsigned n = 0; n < AREAS; n++) {
+        struct area area = saved_area(n);
+        saved = saved || (at >= area.at && at < area.at + area.len);
+    }
+    return saved;
 }
 
 bool data_stands(const struct box *box)
 {
-    for (size_t i = 0; i < MEMORY_LEN; i++) {
-        if (!in_table(MEMORY_START + i) && box->memory[i] != DATA)
+    for (size_t at = 0; at < MEMORY_LEN; at++) {
+        if (!is_saved(at) && box->memory[at] != DATA)
             return false;
     }
     return true;

@@ -12,6 +12,8 @@ struct box {
     uint8_t *state;
     size_t state_len;
     uint8_t *memory;
+    /* Of the bytes that the save wrote, as the old box took it. */
+    uint32_t checksum;
     /* The trigger words as the guest wrote them: no attribute hands them out, so the hypervisor, which passes each write on, keeps them.
      * First the VCPUs' own, then the shared ones. */
     uint32_t triggers[VCPUS + IRQ_COUNT / 32];

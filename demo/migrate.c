@@ -1,12 +1,14 @@
 /* A guest moves from one box to another: what a technician does with the library, every step of it checked.
  *
- * The old box is set up, maps three devices with thirty events, runs and is stopped. Its mapping is saved into its memory; memory and
- * registers are carried to a new box, which restores the mapping. Then one link in the carried memory is damaged, and the new box refuses
- * it and keeps what it had.
+ * The old box is set up, maps three devices with thirty events, runs and is stopped. Its mapping is saved into its memory; memory,
+ * registers and a checksum of the saved bytes are carried to a new box, which compares the checksum and restores the mapping. Then one link
+ * in the carried memory is damaged, and the new box refuses it and keeps what it had. At last come damages that a restore does not find
+ * and the checksum does.
  *
  * What is expected stands here by hand: what the plan mapped, and the bytes of one table entry, by the published layout.
  */
 #include "box.h"
+#include "damage.h"
 #include "facts.h"
 #include "ritikancha.h"
 
@@ -66,9 +68,10 @@ static void make_old_box(struct box *box)
         write_status(box, frame, frame + 1);
     run_guest(box);
     answers(save(box), 0, "the mapping is saved");
+    box->checksum = saved_checksum(box);
     fact(data_stands(box), "save leaves the guest's data");
-    printf("old box: %d VCPUs, %d interrupts, %d devices, %d collections, %d events; stopped and saved\n", VCPUS, IRQ_COUNT,
-           DEVICES, COLLECTIONS, EVENTS);
+    printf("old box: %d VCPUs, %d interrupts, %d devices, %d collections, %d events; stopped and saved, checksum %08" PRIx32 "\n",
+           VCPUS, IRQ_COUNT, DEVICES, COLLECTIONS, EVENTS, box->checksum);
 }
 
 static unsigned looked_up(const struct box *box, int64_t (*want)(const struct event *), const char *what)
@@ -93,7 +96,7 @@ static int64_t missing(const struct event *event)
 }
 
 /* Beside what the plan fixes (VCPUs, memory, the tables' places) the new box gets only what came out of the old one: layout, registers,
- * memory. */
+ * memory and the checksum of the saved bytes. */
 static void carry(const struct box *old, struct box *new)
 {
     struct layout layout = read_layout(old);
@@ -103,6 +106,8 @@ static void carry(const struct box *old, struct box *new)
     set_up(new, &layout);
     write_registers(new, &registers);
     memcpy(new->memory, old->memory, MEMORY_LEN);
+    new->checksum = old->checksum;
+    fact(saved_checksum(new) == new->checksum, "the saved bytes came over as they were");
     looked_up(new, missing, "nothing is mapped before the restore");
     answers(restore(new), 0, "the mapping is restored");
     fact(memcmp(new->memory, old->memory, MEMORY_LEN) == 0, "restore leaves memory alone");
@@ -219,6 +224,7 @@ int main(void)
 {
     if (!fact(rk_state_len() > 0, "a state has a length"))
         return close_facts();
+    check_checksum();
     struct box old = open_box();
     struct box new = open_box();
     make_old_box(&old);
@@ -228,6 +234,8 @@ int main(void)
     lower_lines(&new);
     compare_frames(&old, &new);
     refuse_damage(&new);
+    lose_first_device(&old, &new);
+    flip_every_bit(&old, &new);
     close_box(&old);
     close_box(&new);
     return close_facts();

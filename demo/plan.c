@@ -31,3 +31,12 @@ struct event event_at(unsigned n)
     };
     return event;
 }
+
+struct area saved_area(unsigned n)
+{
+    static const uint64_t tables[] = {DEVICE_TABLE, COLLECTION_TABLE};
+    if (n < 2)
+        return (struct area){.at = tables[n] - MEMORY_START, .len = TABLE_LEN};
+    const struct device *device = &devices[n - 2];
+    return (struct area){.at = device->itt - MEMORY_START, .len = (size_t)8 << device->bits};
+}

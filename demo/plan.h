@@ -2,6 +2,7 @@
 #ifndef PLAN_H
 #define PLAN_H
 
+#include <stddef.h>
 #include <stdint.h>
 
 #define WIDTH 40
@@ -16,6 +17,7 @@ enum { TIMER = 27, KEYBOARD = 40, DISK = 70, NETWORK = 71, SENSOR = 287, IRQ_COU
 /* The device table is the first page of memory, the collection table the second; the ITTs follow. */
 #define DEVICE_TABLE MEMORY_START
 #define COLLECTION_TABLE (MEMORY_START + 0x1000)
+#define TABLE_LEN 0x1000u
 
 /* What group 0 and group 3 say of a box: a new box is set up with what an old one hands out. */
 struct layout {
@@ -43,6 +45,14 @@ struct event {
     struct collection collection;
 };
 
+/* A run of memory: the bytes before it, and its length. */
+struct area {
+    size_t at;
+    size_t len;
+};
+
+enum { AREAS = 2 + DEVICES };
+
 extern const uint32_t affinities[VCPUS];
 extern const struct layout planned_layout;
 extern const struct collection collections[COLLECTIONS];
@@ -50,5 +60,8 @@ extern const struct device devices[DEVICES];
 
 /* Event number n of the plan, n from 0 to EVENTS - 1. */
 struct event event_at(unsigned n);
+
+/* The bytes of memory that a save writes, area n from 0 to AREAS - 1: the device table, the collection table, each device's ITT. */
+struct area saved_area(unsigned n);
 
 #endif

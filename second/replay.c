@@ -5,7 +5,7 @@
  * `second trace FILE` writes a trace; src/trace.rs tells its bytes. Of each call are compared: the answer and the lent bytes with what the
  * model expects, the state with the checksum of the one that the library left when the trace was written, and margins around state and
  * lent bytes, which nobody may write. The last line is 'NAME: N passed, M failed', one count for each call and one for the length of a
- * state; the exit status is 0 only if all passed and the trace was whole.
+ * state (docs/DEFINITION.md, §1.2); the exit status is 0 only if all passed and the trace was whole.
  */
 #include "ritikancha.h"
 

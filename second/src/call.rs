@@ -113,7 +113,7 @@ pub enum Call {
 }
 
 impl Call {
-    /// Calls that only read the state, by the interface.
+    /// Calls that only read the state.
     pub fn keeps_state(&self) -> bool {
         match self {
             Call::Get { .. } | Call::RedistBase { .. } | Call::Pending { .. } => true,
@@ -123,7 +123,7 @@ impl Call {
         }
     }
 
-    /// Calls that may write what is lent to them: a get its value, a save its memory.
+    /// Calls that may write what is lent to them: a get its value (§2.8), a save its memory (§7.6).
     pub fn writes_lent(&self) -> bool {
         match self {
             Call::Get { .. } => true,
@@ -133,7 +133,7 @@ impl Call {
         }
     }
 
-    /// Calls whose success is a number asked for; every other success is 0.
+    /// §2.3: calls that answer the number that they are asked for; the others answer 0.
     pub fn asks_number(&self) -> bool {
         match self {
             Call::RedistBase { .. } | Call::Pending { .. } => true,
@@ -152,5 +152,5 @@ impl Call {
 /// Whether ITS INIT and RESET are compared.
 pub const ITS_STEPS: bool = cfg!(feature = "its");
 
-/// The refusals of document 01's table.
+/// §2.2.
 pub const REFUSALS: [i64; 9] = [-2, -6, -7, -12, -14, -16, -17, -19, -22];

@@ -1,4 +1,5 @@
-//! Planted faults: each is one edit of the model, made in a copy. A run of the edited copy must see it.
+//! Planted faults: each is one edit of the model, the judge or the decoder, made in a copy. A run of the edited copy
+//! must see it.
 
 use std::fs;
 use std::path::{Path, PathBuf};

@@ -1,4 +1,5 @@
-//! The second program: a model of document 01 written from the text, held against the library call by call.
+//! The second program: a model of docs/DEFINITION.md, written by people who have not looked at the library's code, and
+//! held against the library call by call. `§3.8` in a comment or a title is a paragraph of that page.
 
 mod call;
 mod directed;
@@ -34,14 +35,14 @@ fn usage() -> ! {
     exit(2)
 }
 
-/// The length of the state is the layout's, and always the same. On another length no judge could be asked.
+/// §1.2: the length of the state is the layout's, and always the same. On another length no judge could be asked.
 fn check_length(report: &mut Report) {
     let first = ffi::state_len();
     if first == state::layout::LENGTH as i64 && first == ffi::state_len() {
         report.pass(1);
         return;
     }
-    report.fail(Kind::DirectedLibrary, "rk_state_len", &format!("answered {first}"));
+    report.fail(Kind::DirectedLibrary, "§1.2 rk_state_len", &format!("answered {first}"));
     exit(report.close());
 }
 

@@ -1,4 +1,4 @@
-//! The second program's own showing program, from the model alone: no call of the library is made here.
+//! The second program's own showing program (part 11), from the model alone: no call of the library is made here.
 
 use crate::call::{Call, Device};
 use crate::model::described::described;
@@ -7,9 +7,10 @@ use crate::model::its::{Event, Mapping};
 use crate::model::Model;
 use std::io::Write;
 
-/// Where the image lies in the guest's memory: the device table is its first page, the collection table its second.
+/// §11.1: where the image lies. Its first page is the device table, its second the collection table.
 pub const START: u64 = 0x4000_0000;
 
+/// §11.1.
 const VCPUS: u32 = 4;
 
 fn set(device: Device, group: u64, attribute: u64, value: &[u8]) -> (Call, Vec<u8>) {
@@ -31,7 +32,7 @@ fn steps(length: u64) -> Vec<(Call, Vec<u8>)> {
     steps
 }
 
-/// A guest with 4 VCPUs, stopped, with its tables placed and no mapping.
+/// §11.1: the guest, stopped, with its tables placed and nothing mapped.
 pub fn placed(length: u64) -> Model {
     let mut model = Model::default();
     for (call, mut value) in steps(length) {
@@ -41,8 +42,8 @@ pub fn placed(length: u64) -> Model {
     model
 }
 
-/// What restore leaves, or its refusal. The model has two readings of the text, the walk by restore's rules and the
-/// paragraph "Described": where they differ, neither can be held against anything.
+/// What restore leaves, or its refusal. The model reads bytes in two ways, by the walk of part 9 and by the rules of
+/// part 8: where the two differ, neither can be held against anything.
 fn restored(image: &[u8]) -> Result<Mapping, i64> {
     let mut model = placed(image.len() as u64);
     let tables = model.guest().its.tables.expect("placed");
@@ -53,7 +54,7 @@ fn restored(image: &[u8]) -> Result<Mapping, i64> {
     walked
 }
 
-/// The three sets, each rising; decimal but for the ITT.
+/// §11.2.
 pub fn rows(mapping: &Mapping) -> String {
     let mut lines = vec![format!("collections {}", mapping.collections.len())];
     lines.extend(mapping.collections.iter().map(|(icid, pe)| format!("{icid} {pe}")));
@@ -65,12 +66,12 @@ pub fn rows(mapping: &Mapping) -> String {
     lines.join("\n") + "\n"
 }
 
-/// An image is 8,192 to 65,536 bytes and a multiple of 4,096; any other length is refused before a byte is read.
+/// §11.1: any other length is refused before a byte is read.
 fn length_fits(length: usize) -> bool {
     (8192..=65_536).contains(&length) && length % 4096 == 0
 }
 
-/// Everything that is written for an image.
+/// §11.2, §11.3: everything that is written for an image.
 pub fn text(image: &[u8]) -> String {
     let shown = if length_fits(image.len()) { restored(image) } else { Err(-14) };
     match shown {
@@ -79,7 +80,8 @@ pub fn text(image: &[u8]) -> String {
     }
 }
 
-/// Shows one file; the exit status is 0 for a refused image too, as a refusal is what there is to show.
+/// Shows one file. The exit status is 0 for a refused image too, as in §11.5. Other than there it is 1 for a file that
+/// cannot be read, so that `scripts/show` sees it.
 pub fn run(file: &str) -> i32 {
     let written = std::fs::read(file).and_then(|image| std::io::stdout().write_all(text(&image).as_bytes()));
     match written {

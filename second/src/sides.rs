@@ -1,5 +1,5 @@
 //! The two sides of the comparison behind one face: the library with its real bytes, and the model.
-//! Both watch the promises that hold around any call: a refusal changes nothing, a reader leaves the state.
+//! Both watch what holds around any call: a refusal changes nothing (§2.4), a reader leaves the state.
 
 use crate::call::{Call, REFUSALS};
 use crate::ffi;
@@ -58,7 +58,8 @@ impl Library {
     }
 }
 
-/// What must hold around a call whatever the state was: a listed answer, and nothing changed where nothing may be.
+/// What must hold around a call whatever the state was: an answer of §2.2 or §2.3, and nothing changed where nothing
+/// may be (§2.4, §2.8).
 fn around(call: &Call, answer: i64, same_state: bool, same_lent: bool, complaints: &mut Vec<String>) {
     if answer < 0 && !REFUSALS.contains(&answer) {
         complaints.push(format!("answer {answer} is no listed number"));

@@ -1,6 +1,6 @@
 //! A trace: calls with what is expected of each, as bytes, for `replay.c` to make again on another archive.
 //!
-//! What is expected of a call are the answer and the lent bytes of the model (of the text, where a state is not sound), and
+//! What is expected of a call are the answer and the lent bytes of the model (of §1.3, where a state is not sound), and
 //! a checksum of the state that the library left: the model reads states, but makes none. Library and model must agree while a
 //! trace is written; a run with a difference leaves none.
 //!

@@ -4,50 +4,51 @@ use mathlib.Core.Bool.{Bool, false, _||_}
 use mathlib.Core.List.{List, [], _∷_}
 use lib.Dec.{eqb}
 
--- what is named does not stand
+-- §2.2: ENOENT, something named that is not there
 abbrev pub enoent : ℕ
 enoent = 2
 
--- an unknown group, attribute or offset, or not set up far enough
+-- §2.2: ENXIO, an unknown group, attribute or offset, or a guest that is not ready
 abbrev pub enxio : ℕ
 enxio = 6
 
--- a frame ends above 2 ^ p
+-- §2.2: E2BIG, a frame ends above 2^p
 abbrev pub e2big : ℕ
 e2big = 7
 
--- one more than a limit
+-- §2.2: ENOMEM, one over a limit
 abbrev pub enomem : ℕ
 enomem = 12
 
--- a lent value of the wrong width, lent memory of the wrong length, or an area not wholly inside memory
+-- §2.2: EFAULT, a state, a value or a memory of a wrong length, or an area that is not inside memory
 abbrev pub efault : ℕ
 efault = 14
 
--- VCPUs are running, or it is already fixed
+-- §2.2: EBUSY, the guest runs, or what is asked for is fixed
 abbrev pub ebusy : ℕ
 ebusy = 16
 
--- already configured or mapped
+-- §2.2: EEXIST, set or mapped before
 abbrev pub eexist : ℕ
 eexist = 17
 
--- INIT with no VCPU, or an unknown attribute in the ITS address group
+-- §2.2: ENODEV, VGIC INIT without a VCPU, or another attribute than 4 in the ITS's group 0
 abbrev pub enodev : ℕ
 enodev = 19
 
--- every other fault
+-- §2.2: EINVAL, all other faults
 abbrev pub einval : ℕ
 einval = 22
 
--- all of them, rising
+-- §2.2: the nine of them, rising
 abbrev pub errnos : List ℕ
 errnos = enoent ∷ enxio ∷ e2big ∷ enomem ∷ efault ∷ ebusy ∷ eexist ∷ enodev ∷ einval ∷ []
 
+-- Notation: a number is in a list
 abbrev pub among : List ℕ → ℕ → Bool
 among [] e = false
 among (x ∷ xs) e = eqb e x || among xs e
 
--- the number is the errno of a refusal
+-- §2.2, §10.2: the number is one of the nine errnos
 unfoldable pub listed : ℕ → Bool
 listed e = among errnos e

@@ -3,7 +3,7 @@ ghost use Prim.Native.Nat.{_<_, _^_};
 ghost use Rattle.answers.specs.Errno.{errnos};
 ghost use Rattle.answers.specs.Answer.{refusal, done};
 
-// The errnos of the refusals. Their definitions in the contracts say when each is given.
+// The errnos of the refusals (§2.2). Their definitions in the contracts say when each is given.
 pub struct Errno;
 
 impl Errno {
@@ -43,7 +43,7 @@ pub fn table() -> [u64; 9]
     ]
 }
 
-// A refusal, handed back as the negated errno.
+// A refusal (§2.1): the errno with its sign turned.
 pub fn refuse(errno: u64) -> i64
     requires { ⌜ errno < 4096 ⌝ }
     ensures { λ r. ⌜ r ≡ refusal errno ⌝ }
@@ -51,7 +51,7 @@ pub fn refuse(errno: u64) -> i64
     -(errno as i64)
 }
 
-// Success, handed back as the number asked for.
+// Success (§2.1): the number itself.
 pub fn done(n: u64) -> i64
     requires { ⌜ n < 2 ^ 63 ⌝ }
     ensures { λ r. ⌜ r ≡ done n ⌝ }

@@ -20,7 +20,7 @@ module _ (a b : Area) where
   unfolding overlaps
   overlaps-sym = ap₂ ltb (max-comm (a .start) (b .start)) (min-comm (endOf a) (endOf b))
 
-  -- "Two areas overlap if they share a byte."
+  -- §3.4: a byte that belongs to both
   abbrev pub Shares : Type 0
   Shares = (x : ℕ) × (a .start ≤ x) × (x < endOf a) × (b .start ≤ x) × (x < endOf b)
 
@@ -35,7 +35,7 @@ module _ (a b : Area) where
   byte-overlaps s =
       lt-ltb (max (a .start) (b .start)) (min (endOf a) (endOf b)) (omega (arith, s .1, s .2, s .3, s .4))
 
-  -- they do not
+  -- there is none
   abbrev pub Clear : Type 0
   Clear = Shares → ⊥
 

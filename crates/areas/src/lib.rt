@@ -4,6 +4,7 @@ ghost use mathlib.Core.List.{_++_, _∷_, []};
 ghost use Prim.Native.Nat.{_+_, _≤_, _<_};
 ghost use Rattle.areas.specs.Area.{overlaps, endsBy, inside, struck, strikes, areas};
 
+// §3.4: a run of addresses, by its start and its size in bytes.
 pub struct Area {
     pub start: u64,
     pub size: u64,
@@ -15,7 +16,7 @@ pub struct Areas {
     pub count: usize,
 }
 
-// Whether two areas share a byte. Starts are compared by their difference, since an end may lie past the last number.
+// Whether two areas overlap (§3.4). Starts are compared by their difference, since an end may lie past the last number.
 pub fn overlaps(a: Area, b: Area) -> bool
     ensures { λ r. ⌜ r ≡ overlaps a b ⌝ }
 {
@@ -31,7 +32,7 @@ pub fn overlaps(a: Area, b: Area) -> bool
     false
 }
 
-// Whether an area ends at or below a limit.
+// Whether an area ends at or below a limit (§2.10).
 pub fn ends_by(limit: u64, a: Area) -> bool
     ensures { λ r. ⌜ r ≡ endsBy limit a ⌝ }
 {

@@ -1,5 +1,5 @@
--- What a bank does, bit by bit, in plain arithmetic: bit i of a word is word / 2 ^ i % 2. Interrupt i is edge where bit i of the trigger
--- word is 1, and level-sensitive where it is 0. Assumes nothing.
+-- What a bank does (§4.1, §4.4 to §4.6), bit by bit, in plain arithmetic: bit i of a word is word / 2 ^ i % 2. Interrupt i is edge where
+-- bit i of the trigger word is 1, and level-sensitive where it is 0. Assumes nothing.
 use Prim.Native.Nat.{ℕ, _≤_}
 use native.Mathlib.Omega.{arith}
 use mathlib.Core.Path.{_≡_, refl, sym, _∙_}
@@ -87,7 +87,7 @@ module _ (b : Bank) (i : ℕ) where
       trigger true = refl
       trigger false = refl
 
-  -- a rise from 0 to 1 of an edge interrupt latches it
+  -- an edge interrupt whose line rises is latched
   pub edge-rise : bitAt (b .trigger) i ≡ 1 → bitAt (b .level) i ≡ 0 → bitAt (lined i 1 b .latch) i ≡ 1
   unfolding lined getField
   edge-rise e z = rw (e, z) set-latches

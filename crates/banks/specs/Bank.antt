@@ -1,4 +1,4 @@
--- One bank of 32 interrupts. "One bank of 32 interrupts is one record: latch, line level, trigger (bit set: edge)."
+-- One bank of 32 interrupts (§4.1): what a call does to its three words.
 use Prim.Native.Nat.{ℕ}
 use mathlib.Core.Bool.{Bool, _&&_}
 use lib.Dec.{eqb}
@@ -6,13 +6,15 @@ use Rattle.lists.specs.Rows.{choose}
 use Rattle.fields.specs.Field.{getField, putField}
 use Rattle.guest.specs.declared.Bank.{Bank}
 
--- bit i of a word
+-- Notation: bit i of a word
 abbrev pub bit : ℕ → ℕ → ℕ
 bit word i = getField word i 1
 
+-- §4.1: interrupt i is edge where its trigger bit is set, and level where it is clear
 abbrev pub isEdge : Bank → ℕ → Bool
 isEdge b i = eqb (bit (b .trigger) i) 1
 
+-- Notation: a bank with one word replaced
 abbrev pub withLatch : ℕ → Bank → Bank
 withLatch word b = record { latch = word; level = b .level; trigger = b .trigger }
 
@@ -22,23 +24,24 @@ withLevel word b = record { latch = b .latch; level = word; trigger = b .trigger
 abbrev pub withTrigger : ℕ → Bank → Bank
 withTrigger word b = record { latch = b .latch; level = b .level; trigger = word }
 
--- "Guest reads pending (0 or 1): latch for an edge interrupt, latch OR level for a level one."
+-- §4.4: pending, 0 or 1: the latch of an edge interrupt, the latch or the level of a level interrupt
 unfoldable pub pending : Bank → ℕ → ℕ
 pending b i =
     choose (isEdge b i) (bit (b .latch) i)
     (choose (eqb (bit (b .latch) i) 1) 1 (bit (b .level) i))
 
--- "Guest set raises the named INTID's latch, clear and activation lower it."
+-- §4.5: the latch of interrupt i made 1, and made 0
 unfoldable pub raised : ℕ → Bank → Bank
 raised i b = withLatch (putField (b .latch) i 1 1) b
 
 unfoldable pub lowered : ℕ → Bank → Bank
 lowered i b = withLatch (putField (b .latch) i 1 0) b
 
--- "A device's line change stores its level; a rise from 0 to 1 of an edge interrupt also raises its latch."
+-- §4.6: whether a line latches: an edge interrupt whose stored level is 0, wherever it came from, goes to 1
 abbrev pub rises : ℕ → ℕ → Bank → Bool
 rises i level b = isEdge b i && (eqb (bit (b .level) i) 0 && eqb level 1)
 
+-- §4.6: the level is stored, and a rise is latched by what the bank held before
 unfoldable pub lined : ℕ → ℕ → Bank → Bank
 lined i level b =
     withLevel (putField (b .level) i 1 level)

@@ -1,4 +1,4 @@
--- RESET by what it does to a box, not by the text of its definition: what it refuses, what it leaves, and what answers -6 after it.
+-- RESET (§5.14) by what it does to a box, not by how it is defined: what it refuses, what it leaves, and what answers -6 after it.
 -- Assumes nothing.
 use Prim.Native.Nat.{ℕ}
 use mathlib.Core.Path.{_≡_, refl}

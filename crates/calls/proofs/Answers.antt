@@ -1,4 +1,4 @@
--- The errno of every step is 0 or one that document 01 lists.
+-- The errno of every step is 0 or one of the nine of §2.2.
 use Prim.Native.Nat.{ℕ, _<_}
 use mathlib.Core.Path.{_≡_, refl}
 use mathlib.Core.Bool.{true, _||_}

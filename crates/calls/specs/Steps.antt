@@ -10,7 +10,8 @@ use Rattle.calls.specs.declared.Question.{Question}
 use Rattle.calls.specs.declared.Question.the-variants.{VgicGet, ItsGet, RedistBase, Pending}
 use Rattle.calls.specs.Groups.{vgicSet, vgicGet, itsSet, itsGet}
 
--- calls that may change the state
+-- §3.1, §3.2, §4.5, §4.6, §4.7: which step each call is that may change the guest; attributes go by their group (§2.7). §4.5: activate
+-- does what clear does.
 abbrev pub changeStep : Change → Machine → Result
 changeStep (AddVcpu affinity) m = addVcpu affinity m
 changeStep Start m = setRunning 1 m
@@ -23,7 +24,7 @@ changeStep (Activate vcpu intid) m = irqClear vcpu intid m
 changeStep (Line vcpu intid level) m = irqLine vcpu intid level m
 changeStep (Trigger vcpu intid word) m = irqTrigger vcpu intid word m
 
--- calls that only ask
+-- §2.7, §3.13, §4.4: which question each call is that only asks
 abbrev pub askStep : Question → Machine → Reading
 askStep (VgicGet group attribute width value) m = vgicGet group attribute width value m
 askStep (ItsGet group attribute width) m = itsGet group attribute width m

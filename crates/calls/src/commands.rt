@@ -16,7 +16,7 @@ ghost use Rattle.mapping.specs.MapRules.{MapKept};
 ghost use Rattle.mapping.specs.Commands.{mapDevice, unmapDevice, mapCollection, unmapCollection, mapEvent, discard, move};
 ghost use Rattle.calls.specs.Commands.{BoxDoes, refuseBox, ready, onMapping, place, reset, lookupStep, memoryFault};
 
-// Whether the ITS is initialised and its tables are placed.
+// §5.3: whether ITS INIT is done and the tables are placed.
 fn is_ready(g: Guest) -> bool
     ensures { λ r. ⌜ r ≡ ready (view g) ⌝ }
 {
@@ -51,7 +51,7 @@ fn remapped(g: Guest, o: Remapped) -> BoxOutcome
     }
 }
 
-// Sets both tables' places.
+// §5.4: sets both tables' places.
 pub fn place(g: Guest, k: Mapping, ds: u64, dp: u64, cs: u64, cp: u64) -> BoxOutcome
     requires { ⌜ MapKept g k ⌝ }
     ensures { λ r. ⌜ BoxDoes r (place ds dp cs cp (view g) (rows k)) ⌝ }
@@ -156,7 +156,7 @@ pub fn move_event(g: Guest, k: Mapping, device: u64, event: u64, icid: u64) -> B
     remapped(g, its::move_event(k, device, event, icid))
 }
 
-// RESET: no mapping, no table placed; the ITS stays initialised.
+// §5.14: RESET: nothing mapped, no table placed; ITS INIT stands.
 pub fn reset(g: Guest, k: Mapping, width: u64) -> BoxOutcome
     requires { ⌜ MapKept g k ⌝ }
     ensures { λ r. ⌜ BoxDoes r (reset width (view g) (rows k)) ⌝ }
@@ -199,7 +199,7 @@ pub fn look_up(g: Guest, k: Mapping, device: u64, event: u64) -> Reading
     its::lookup(k, device, event)
 }
 
-// The fault of a save or a restore that lends so many bytes of memory; 0 for none.
+// §7.1, §9.1: the fault of a save or a restore that lends so many bytes of memory; 0 for none.
 pub fn memory_fault(s: &[u8], len: u64) -> u64
     requires { ⌜ length (now s) ≡ size ⌝ }
     ensures { λ r. ⌜ r ≡ memoryFault len (decode (now (s .entry))) ⌝ }

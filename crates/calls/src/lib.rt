@@ -21,7 +21,8 @@ ghost use Rattle.calls.specs.Commands.{BoxDoes, commandStep};
 ghost use Rattle.calls.specs.Call.{changes, asks, setUp, valueOf, given, answered, Gives};
 ghost use Rattle.calls.specs.Call.{commands, looks, saves, restores};
 
-// Calls that may change the state. Attributes come with the width of the lent value and its number.
+// Calls that may change the state (`changeStep` says which paragraph each is). Attributes come with the width of the lent value and its
+// number (§2.8).
 pub enum Change {
     AddVcpu(u64),
     Start,
@@ -35,7 +36,7 @@ pub enum Change {
     Trigger(u64, u64, u64),
 }
 
-// Calls that only ask.
+// Calls that only ask (`askStep`); of attributes likewise. A get of a region is told its index by the lent value (§3.10).
 pub enum Question {
     VgicGet(u64, u64, u64, u64),
     ItsGet(u64, u64, u64),
@@ -43,7 +44,7 @@ pub enum Question {
     Pending(u64, u64),
 }
 
-// The commands of the ITS, and RESET with the width of its value.
+// The commands of the ITS (part 5 of docs/DEFINITION.md; `commandStep`), and RESET with the width of its value (§2.9).
 pub enum Command {
     Place(u64, u64, u64, u64),
     MapDevice(u64, u64, u64),
@@ -93,7 +94,7 @@ pub fn answer(g: Guest, q: Question) -> Reading
     }
 }
 
-// The test that every call makes first, of bytes of the right length: the counts, before a row is read, then the guest's rules and
+// §1.8: the test that every call makes first, of bytes of the right length: the counts, before a row is read, then the guest's rules and
 // the mapping's. Rows are read where they lie.
 pub fn is_sound(s: &[u8]) -> bool
     requires { ⌜ length (now s) ≡ size ⌝ }
@@ -142,7 +143,7 @@ pub fn ask(state: &[u8], q: Question) -> Reading
     answer(layout::load_guest(state), q)
 }
 
-// Makes a fresh guest of any bytes of the right length.
+// §1.4: makes a fresh guest of any bytes of the right length.
 pub fn set_up(state: &mut [u8], width: u64, start: u64, length: u64) -> i64
     ensures { λ r. ⌜ Gives (setUp width start length (now (state .entry))) r (now (state .exit)) ⌝ }
 {
@@ -160,7 +161,7 @@ pub fn set_up(state: &mut [u8], width: u64, start: u64, length: u64) -> i64
     0
 }
 
-// The number that a lent value stands for.
+// §2.8: the number that a lent value stands for.
 pub fn value_of(value: &[u8]) -> u64
     ensures { λ r. ⌜ r ≡ valueOf (now (value .entry)) ⌝ }
 {
@@ -173,7 +174,7 @@ pub fn value_of(value: &[u8]) -> u64
     0
 }
 
-// Fills a lent value with what a question came to.
+// §2.8: fills a lent value with what a question came to.
 pub fn give(value: &mut [u8], r: Reading) -> i64
     requires { ⌜ r .errno < 4096 ⌝ }
     ensures { λ a. ⌜ Gives (given r (now (value .entry))) a (now (value .exit)) ⌝ }

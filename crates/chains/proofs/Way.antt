@@ -17,7 +17,7 @@ choose-cases true e = inl (refl, e)
 choose-cases false e = inr (refl, e)
 
 module _ (T : Slots) (pos : 0 < T .cap) where
-  -- `Link` is exactly "leads to", where no distance is above the cap
+  -- `Link` (§8.4, §8.5) and where a slot leads (§9.6) are the same, where no next is above the cap
   pub leads : (i j : ℕ) → Link T i j → following T i ≡ At j
   unfolding following
   leads i j l = ⊎-elim

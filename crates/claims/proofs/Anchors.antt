@@ -65,6 +65,8 @@ is-fresh width start len m e =
       init = refl;
       itsinit = refl;
       running = refl;
+      status = refl;
+      shared = refl;
     })
 
 pub setup-fresh : (width start len : ℕ) (s v : List ℕ) → Bytes s → Accepted (step (setup width start len) s v) → SetUp width start len (step (setup width start len) s v)

@@ -1,4 +1,4 @@
--- Demand 1: every call answers 0 or more or a listed errno, and a refusal changes nothing. Assumes nothing.
+-- Demand 1 (§10.2): every call answers 0 or more or a listed errno, and a refusal changes nothing. Assumes nothing.
 use Prim.Native.Nat.{ℕ}
 use mathlib.Core.Path.{_≡_, refl}
 use mathlib.Core.Bool.{Bool, true, false, _||_, _&&_}
@@ -195,7 +195,7 @@ module _ (s v : List ℕ) where
       twentytwo)
       fourteen
 
--- for every call, every state and every lent value or memory, of any bytes and any length
+-- §10.2: for every call, every state and every lent value or memory, of any bytes and any length
 pub demand1 : (c : Call) (s v : List ℕ) → Answers s v (step c s v)
 demand1 stateLen s v = succeeds size refl
 demand1 (setup width start len) s v = setup-answers s v width start len

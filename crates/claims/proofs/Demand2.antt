@@ -130,7 +130,7 @@ none-holds : (x : ℕ) (l : List Area) → All (λ (a : Area). a .start ≤ x �
 none-holds x [] none = none
 none-holds x (a ∷ l) (more p q) = more (λ h. p (h .low) (h .high)) (none-holds x l q)
 
--- Demand 2 whole, over every public call
+-- §10.3, §10.4, §10.5: demand 2 whole, over every public call
 pub demand2 : Demand2
 demand2 = record {
   stays = sound-stays;

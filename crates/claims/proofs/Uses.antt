@@ -121,7 +121,7 @@ pub banks-apart : (j k : ℕ) → (j ≡ k → ⊥) → (c q : Call) (s v w : Li
     → (step q (step c s v .state) w .answer ≡ step q s w .answer) × (step q (step c s v .state) w .lent ≡ step q s w .lent)
 banks-apart j k n c q s v w h p b x y = let a = demand2 .apart j k n c q s v w h p b x y in (a .answer, a .lent)
 
--- demand 3 (a): a described mapping is restored, and where none is described restore is refused
+-- demand 3 (§10.6): a described mapping is restored, and where none is described restore is refused
 module _ (s mem : List ℕ) (r : Ready s mem) where
   pub described-restored : (k : Mapped) → Described (decode s) mem k
       → (step itsRestore s mem .answer ≡ pos 0) × (decodeMap (step itsRestore s mem .state) ≡ k)
@@ -141,7 +141,7 @@ module _ (s mem : List ℕ) (r : Ready s mem) where
   pub refused-undescribed : (n : ℕ) → step itsRestore s mem .answer ≡ negsuc n → (k : Mapped) → Described (decode s) mem k → ⊥
   refused-undescribed n h k d = never (ap negative (sym (described-restored k d .0) ∙ h))
 
-  -- (b) and (c): save is accepted, and after any calls in between the mapping comes back with every lookup
+  -- §10.7, §10.8: save is accepted, and after any calls in between the mapping comes back with every lookup
   pub saved : step itsSave s mem .answer ≡ pos 0
   saved = demand3 s mem r .saves
 

@@ -7,12 +7,13 @@ use Rattle.answers.specs.Errno.{listed}
 use Rattle.answers.specs.Answer.{refusal, done}
 use Rattle.step.specs.Step.{Call, After, stateLen, vcpusStart, vcpusStop, setup, vcpuAdd, redistBase, vgicSet, itsSet, vgicGet, itsGet, irqPending, irqSetPending, irqClearPending, irqActivate, irqLine, irqTrigger, itsPlace, itsMapEvent, itsMapDevice, itsMove, itsMapCollection, itsDiscard, itsLookup, itsUnmapDevice, itsUnmapCollection, itsSave, itsRestore}
 
--- "Success is 0 or more, a refusal is the negated errno": a listed one, and then the state and the lent value stay
+-- §10.2: an answer of 0 or more; or a refusal (§2.1) by one of the nine errnos of §2.2, and then state and lent bytes
+-- are as they were (§2.4)
 pub data Answers (s v : List ℕ) (a : After) : Type 0 where
   succeeds : (n : ℕ) → a .answer ≡ done n → Answers s v a
   refuses : (e : ℕ) → listed e ≡ true → a .answer ≡ refusal e → a .state ≡ s → a .lent ≡ v → Answers s v a
 
--- the numbers of a call as C passes them: two of them have 32 bits
+-- §3.1, §4.7: the numbers of a call as C passes them: an affinity and a trigger word have 32 bits; nothing is asked of the others
 abbrev pub Passed : Call → Type 0
 Passed (vcpuAdd affinity) = affinity < 2 ^ 32
 Passed (irqTrigger vcpu intid word) = word < 2 ^ 32

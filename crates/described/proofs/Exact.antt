@@ -31,7 +31,7 @@ module _ (m : Machine) (mem : List ℕ) where
       let z : _≡_ {A = ℕ} 0 1 = cc in
       omega arith
 
-  -- "The first fault gives the number": -12, -14 or -22
+  -- the number of the first fault (§9.2) is -12, -14 or -22
   pub fault-known : (e : ℕ) → restored m mem ≡ fault e → Known e
   fault-known e p = restored-fine m mem e p
 
@@ -44,7 +44,7 @@ module _ (m : Machine) (mem : List ℕ) where
     pub exact : (k : Mapped) → (restored m mem ≡ found k) ↔ Described m mem k
     exact k = (accepted-described k, complete m mem k)
 
-    -- "restore is refused if and only if" nothing is described
+    -- §10.6: it is refused exactly where nothing is described
     pub refused-exact : ((e : ℕ) × (restored m mem ≡ fault e)) ↔ ((k : Mapped) → Described m mem k → ⊥)
     refused-exact = (λ q. refused-undescribed (q .0) (q .1), λ f. by f (restored m mem) refl)
       where

@@ -34,7 +34,7 @@ use Rattle.tables.specs.Restored.{
   restored,
 }
 
--- "17th -12", "33rd -12", "1,025th -12"; "ITT outside memory -14"; every other fault -22
+-- one row too many -12, an ITT that is not inside memory -14, every other fault -22 (§9.4 to §9.7)
 abbrev pub Known : ℕ → Type 0
 Known e = (e ≡ 12) ⊎ ((e ≡ 14) ⊎ (e ≡ 22))
 

@@ -1,1 +1,1 @@
-// Laws: a restore reads exactly what the bytes describe.
+// Laws: a restore reads exactly what the bytes describe (§10.6).

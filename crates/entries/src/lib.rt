@@ -3,20 +3,20 @@ ghost use Rattle.entries.specs.Device.{DeviceFits, deviceWord, isDevice,
 ghost use Rattle.entries.specs.Collection.{CollectionFits, collectionWord, isCollection, collectionOf};
 ghost use Rattle.entries.specs.Event.{EventFits, eventWord, isEvent, eventOf};
 
-// An entry of the device table: the distance to the next device, the ITT's address and the count of event ID bits.
+// §6.2: an entry of the device table: the distance to the next device, the ITT's address and the number of event ID bits.
 pub struct DeviceEntry {
     pub next: u64,
     pub itt: u64,
     pub bits: u64,
 }
 
-// An entry of the collection table: the collection and the processing element that it names.
+// §6.3: an entry of the collection table: the number of a VCPU, and the collection that is for it.
 pub struct CollectionEntry {
     pub pe: u64,
     pub icid: u64,
 }
 
-// An entry of an ITT: the distance to the next event, its LPI and its collection.
+// §6.4: an entry of an ITT: the distance to the next event, the LPI and the collection.
 pub struct EventEntry {
     pub next: u64,
     pub lpi: u64,

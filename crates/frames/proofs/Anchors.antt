@@ -1,4 +1,5 @@
--- Frames, INIT, the running mark and the interrupt count in plain arithmetic, without the definitions' tests. Assumes nothing.
+-- VCPUs, both INITs, the running mark, redistributors' places and the interrupt count (§3.1, §3.2, §3.11 to §3.15, §5.2) in plain
+-- arithmetic, without the definitions' tests. Assumes nothing.
 use Prim.Native.Nat.{ℕ, _+_, _-_, _*_, _/_, _%_, _^_, _≤_, _<_}
 use native.Mathlib.Omega.{arith}
 use mathlib.Core.Path.{_≡_, refl, sym, ap, _∙_}

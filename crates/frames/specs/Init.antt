@@ -1,4 +1,4 @@
--- VGIC INIT and where each VCPU's redistributor frame lies.
+-- VGIC INIT (§3.11) and where each VCPU's redistributor frame lies (§3.12, §3.13).
 use Prim.Native.Nat.{ℕ, _+_, _-_, _*_}
 use mathlib.Core.Bool.{Bool, true, false}
 use mathlib.Core.List.{List, [], _∷_}
@@ -14,21 +14,21 @@ use Rattle.rules.specs.Standing.{others, total, wholeRun, redistributorSize}
 use Rattle.rules.specs.Rules.{limitOf}
 use Rattle.frames.specs.Vcpus.{withInit}
 
+-- §3.6: the single run as INIT tests it, with 131,072 bytes for every VCPU
 abbrev pub runArea : Machine → Area
 runArea m = record { start = m .frames .single .base; size = wholeRun m }
 
--- a run ends by 2^p and overlaps no other frame
+-- §3.11: the run ends at or below 2^p and overlaps no other frame
 abbrev pub runFits : Area → Machine → Bool
 runFits a m = choose (endsBy (limitOf m) a) (choose (strikes (others m) a) false true) false
 
--- every VCPU has a redistributor place: the whole single run ends by 2^p and overlaps no other frame, or the regions' counts sum to
--- the VCPUs or more
+-- §3.11: there is a place for every redistributor, in the single run where it stands, else in the regions. Neither run nor region is
+-- the sum 0, which is less than the one VCPU that was tested for before.
 unfoldable pub hasPlaces : Machine → Bool
 hasPlaces m =
     choose (isSet (m .frames .single)) (runFits (runArea m) m) (leb (length (m .vcpus)) (total (m .regions)))
 
--- "VGIC INIT (group 4, attribute 0): done before: 0. No VCPU -19. Distributor missing, no redistributor place, region counts summing
--- below the VCPUs, or the whole single run ending above 2^p or overlapping another frame: -6."
+-- §3.11: INIT. Done earlier it is 0 and changes nothing; then -19, then -6 for whatever is missing. It sets its mark and nothing else.
 unfoldable pub vgicInit : Machine → Result
 vgicInit m =
     choose (initialised m) (accept m)
@@ -37,19 +37,20 @@ vgicInit m =
     (choose (hasPlaces m) (accept (withControl (withInit (m .control)) m)) (refuse m 6))
     (refuse m 6)))
 
--- "VCPU k .. has its frame in the region .. where the running sum of counts first exceeds k, at base + 131,072 × (k − counts before)"
+-- §3.12: the address of redistributor k in a list of regions. Where k is not below the first count, that count is taken off and the
+-- rest of the list is asked. With too few regions it is 0: after INIT no VCPU's number gets there (§1.11).
 unfoldable pub locate : List Region → ℕ → ℕ
 locate [] k = 0
 locate (r ∷ rs) k =
     let rest = locate rs (k - r .count) in
     choose (ltb k (r .count)) (r .base + redistributorSize * k) rest
 
--- "(the single run is one)"
+-- §3.12: the single run counts as one region, and it holds every VCPU
 abbrev pub redistributorOf : ℕ → Machine → ℕ
 redistributorOf k m =
     choose (isSet (m .frames .single)) (m .frames .single .base + redistributorSize * k) (locate (m .regions) k)
 
--- "Asking: -6 before INIT, -22 for k not below the VCPUs."
+-- §3.13: asking for the address; before INIT -6, then -22 where no VCPU has the number k
 unfoldable pub redistBase : ℕ → Machine → Reading
 redistBase k m =
     choose (initialised m)

@@ -1,4 +1,4 @@
--- Adding VCPUs, the running mark, the interrupt count and ITS INIT.
+-- Adding VCPUs (§3.1), the running mark (§3.2), the interrupt count (§3.14, §3.15) and ITS INIT (§5.2).
 use Prim.Native.Nat.{ℕ}
 use mathlib.Core.Bool.{_||_, _&&_}
 use mathlib.Core.List.{[], _∷_, _++_}
@@ -10,7 +10,8 @@ use Rattle.guest.specs.declared.Reading.{Reading}
 use Rattle.guest.specs.Machine.{Machine, Result, refuse, accept, initialised, isSet, noVcpu, noBank, sharedCount, withControl, withVcpus, withShared}
 use Rattle.rules.specs.Rules.{taken, irqsOk}
 
--- "A VCPU is added with a 32-bit affinity: after INIT -16, affinity taken -22, a 65th -12."
+-- §3.1: INIT done -16; the affinity is another VCPU's -22, with 64 of them too; one over the limit -12. The new VCPU, a fresh one,
+-- stands behind the others, so that its number is how many there were. The affinity has 32 bits by the type of the export.
 unfoldable pub addVcpu : ℕ → Machine → Result
 addVcpu affinity m =
     choose (initialised m) (refuse m 16)
@@ -18,6 +19,7 @@ addVcpu affinity m =
     (choose (leb 64 (length (m .vcpus))) (refuse m 12)
     (accept (withVcpus (m .vcpus ++ (noVcpu affinity ∷ [])) m))))
 
+-- Notation: the marks of running and of INIT, replaced
 abbrev pub withRunning : ℕ → Control → Control
 withRunning r c = record {
   init = c .init;
@@ -38,6 +40,7 @@ withInit c = record {
   itsinit = c .itsinit;
 }
 
+-- §3.14: the new interrupt count, which from now on counts as set
 abbrev pub withIrqs : ℕ → Control → Control
 withIrqs n c = record {
   init = c .init;
@@ -48,6 +51,7 @@ withIrqs n c = record {
   itsinit = c .itsinit;
 }
 
+-- Notation: the mark of ITS INIT, replaced
 abbrev pub withItsInit : Control → Control
 withItsInit c = record {
   init = c .init;
@@ -58,12 +62,12 @@ withItsInit c = record {
   itsinit = 1;
 }
 
--- "Start and stop set one "running" mark; -6 before INIT." r is 1 for start and 0 for stop.
+-- §3.2: start (r is 1) and stop (r is 0); before INIT -6. What the mark was does not matter.
 unfoldable pub setRunning : ℕ → Machine → Result
 setRunning r m = choose (initialised m) (accept (withControl (withRunning r (m .control)) m)) (refuse m 6)
 
--- Group 3, attribute 0, "value 4 bytes: 64 to 1,024 in steps of 32, else -22; then -16 if set before or after INIT". The banks of the
--- new count are fresh: no call writes one before INIT.
+-- §3.14: set of group 3, attribute 0 (others -6) and 4 bytes (else -14). A number that is no count is -22 before the -16 of a count
+-- that is fixed. The shared banks are fresh, one for each 32 INTIDs of the count but the first 32.
 unfoldable pub setIrqs : ℕ → ℕ → ℕ → Machine → Result
 setIrqs attribute width value m =
     choose (eqb attribute 0)
@@ -75,13 +79,14 @@ setIrqs attribute width value m =
     (refuse m 14))
     (refuse m 6)
 
+-- §3.15: get of group 3, attribute 0, whatever the guest does; names and width as for the set
 unfoldable pub getIrqs : ℕ → ℕ → Machine → Reading
 getIrqs attribute width m =
     choose (eqb attribute 0)
     (choose (eqb width 4) (record { errno = 0; number = m .control .irqs }) (record { errno = 14; number = 0 }))
     (record { errno = 6; number = 0 })
 
--- "ITS INIT (group 4, 0): -6 unless the VGIC is initialised and the ITS base set; repeated: 0."
+-- §5.2: ITS INIT. Where it was done earlier both needs hold (§1.9, §1.13) and the mark stands, so that it is 0 and changes nothing.
 unfoldable pub itsInit : Machine → Result
 itsInit m =
     choose (initialised m && isSet (m .frames .its))

@@ -33,14 +33,14 @@ const BASE_BYTES: u64 = 8;
 // Bases are multiples of this.
 const UNIT: u64 = 65536;
 
-// The bytes of each frame.
+// The bytes of each frame (§3.3).
 const DISTRIBUTOR_BYTES: u64 = 65536;
 
 pub const REDISTRIBUTOR_BYTES: u64 = 131072;
 
 const ITS_BYTES: u64 = 131072;
 
-// The fields of a region word: the lowest bit and the number of bits of each.
+// The fields of a region word (§3.7): the lowest bit and the number of bits of each.
 const INDEX_AT: u32 = 0;
 
 const INDEX_BITS: u32 = 12;
@@ -193,7 +193,7 @@ fn area_fault(g: Guest, a: Area) -> u64
     Errno::E2BIG
 }
 
-// The fault of setting the base of the frame f, of so many bytes; 0 for none.
+// The fault of setting the base of the frame f, of so many bytes (§3.5); 0 for none.
 fn frame_fault(g: Guest, f: Frame, size: u64, base: u64) -> u64
     requires { ⌜ Kept g ⌝ }
     ensures { λ r. ⌜ r ≡ frameFault f size base (view g) ⌝ }
@@ -285,7 +285,7 @@ fn region_area(r: Region) -> Area
     }
 }
 
-// The fault of adding the region of a word; 0 for none.
+// The fault of adding the region of a word (§3.8); 0 for none.
 fn region_fault(g: Guest, w: u64) -> u64
     requires { ⌜ Kept g ⌝ }
     ensures { λ r. ⌜ r ≡ regionFault w (view g) ⌝ }

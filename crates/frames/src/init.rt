@@ -40,7 +40,7 @@ fn has_places(g: Guest) -> bool
     rules::covers(t, n)
 }
 
-// Done before is a success. After it every VCPU has its redistributor's frame.
+// Done earlier is a success (§3.11). After it every VCPU has its redistributor's frame.
 pub fn vgic_init(g: Guest) -> Outcome
     requires { ⌜ Kept g ⌝ }
     ensures { λ r. ⌜ Does r (vgicInit (view g)) ⌝ }
@@ -65,7 +65,7 @@ pub fn vgic_init(g: Guest) -> Outcome
     }
 }
 
-// The frame of VCPU k: in the region where the running sum of counts first exceeds k.
+// The frame of VCPU k (§3.12): left is k without the counts of the regions before, and the first region whose count is above it has it.
 fn locate(g: Guest, k: u64) -> u64
     requires { ⌜ Kept g ⌝ }
     ensures { λ r. ⌜ r ≡ locate (view g .regions) k ⌝ }

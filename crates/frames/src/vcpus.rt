@@ -58,7 +58,7 @@ pub fn add_vcpu(g: Guest, affinity: u64) -> Outcome
     }
 }
 
-// Start (1) and stop (0) set one mark.
+// Start (1) and stop (0) set one mark (§3.2).
 pub fn set_running(g: Guest, mark: u64) -> Outcome
     requires { ⌜ Kept g ⌝ }
     ensures { λ r. ⌜ Does r (setRunning mark (view g)) ⌝ }
@@ -85,7 +85,7 @@ fn fresh_banks(irqs: u64) -> Banks
     }
 }
 
-// The count is fixed once it was set by hand, and by INIT.
+// The count is fixed once it was set by hand, and by INIT (§3.14).
 pub fn set_irqs(g: Guest, attribute: u64, width: u64, value: u64) -> Outcome
     requires { ⌜ Kept g ⌝ }
     ensures { λ r. ⌜ Does r (setIrqs attribute width value (view g)) ⌝ }

@@ -1,4 +1,4 @@
--- The fresh guest and the fresh VCPU, number by number. Assumes nothing.
+-- The fresh guest (§1.5) and the new VCPU (§3.1), number by number. Assumes nothing.
 use Prim.Native.Nat.{ℕ, zero, suc, _+_, _-_, _/_, _%_, _^_, _≤_, _<_}
 use native.Mathlib.Nat.{div-eq-of-lt, lt-of-lt-of-le}
 use native.Mathlib.Omega.{arith}

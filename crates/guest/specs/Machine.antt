@@ -17,8 +17,8 @@ use Rattle.guest.specs.declared.Tables.{Tables}
 use Rattle.guest.specs.declared.Guest.{Guest}
 use Rattle.guest.specs.declared.Outcome.{Outcome}
 
--- "One guest: one VGICv3 and one ITS", all but the ITS mapping. VCPUs stand in order of adding, regions in order of their index,
--- and the shared banks in order of their INTIDs, INTID 32 first: one for each 32 interrupts of the count but the first.
+-- §1.1: the one guest, all but its mapping (§5.1). VCPUs stand in the order in which they were added (§3.1), regions by their index (§3.8)
+-- and the shared banks by their number, bank 1 first (§4.2).
 pub record Machine : Type 0 where
   pub memory : Memory
   pub control : Control
@@ -28,7 +28,7 @@ pub record Machine : Type 0 where
   pub shared : List Bank
   pub tables : Tables
 
--- what a struct of the code stands for
+-- Inner: what a struct of the code stands for
 abbrev pub view : Guest → Machine
 view g = record {
   memory = g .memory;
@@ -40,56 +40,63 @@ view g = record {
   tables = g .tables;
 }
 
--- the counts of a struct are within its arrays
+-- Inner: the counts of a struct are within its arrays
 pub record Held (g : Guest) : Type 0 where
   pub regions : g .regions .count ≤ 32
   pub vcpus : g .vcpus .count ≤ 64
   pub shared : g .shared .count ≤ 31
 
--- What a changing call comes to: an errno, 0 for none, and the next machine.
+-- §2.1: what a changing call comes to: an errno of §2.2, or 0 where the call is done, and the machine afterwards
 pub record Result : Type 0 where
   pub errno : ℕ
   pub next : Machine
 
+-- Inner: the same of a struct of the code
 abbrev pub viewed : Outcome → Result
 viewed o = record { errno = o .errno; next = view (o .guest) }
 
--- the promise of the code of a changing call
+-- Inner: what the code of a changing call promises
 pub record Does (o : Outcome) (r : Result) : Type 0 where
   pub is : viewed o ≡ r
   pub held : Held (o .guest)
 
+-- §2.4: a refused call leaves the machine as it was
 abbrev pub refuse : Machine → ℕ → Result
 refuse m e = record { errno = e; next = m }
 
+-- §2.3: a changing call that is done has no errno, which is handed back as 0
 abbrev pub accept : Machine → Result
 accept m = record { errno = 0; next = m }
 
--- "Fresh: all 0, but SGIs (0 to 15) are always edge with level 0."
+-- §4.3: a fresh bank: all words 0
 abbrev pub noBank : Bank
 noBank = record { latch = 0; level = 0; trigger = 0 }
 
+-- §3.1, §4.3: a new VCPU: its bank is fresh, with trigger bits 1 for INTIDs 0 to 15 (65,535 = 2^16 - 1), and its STATUSR is 0
 abbrev pub noVcpu : ℕ → Vcpu
 noVcpu affinity = record { affinity = affinity; bank = record { latch = 0; level = 0; trigger = 65535 }; status = 0 }
 
--- no region: what stands past the last one
+-- Inner: no region; what is read past the last one
 abbrev pub noRegion : Region
 noRegion = record { base = 0; count = 0 }
 
--- how many shared banks an interrupt count has
+-- §4.2: how many shared banks an interrupt count has: one for each 32 INTIDs below it, but for the first 32
 abbrev pub sharedCount : ℕ → ℕ
 sharedCount irqs = irqs / 32 - 1
 
+-- §1.10: a base that is not set is stored as 0
 abbrev pub unset : Frame
 unset = record { set = 0; base = 0 }
 
+-- §1.13: a table that is not placed is stored as start 0 and 0 pages
 abbrev pub unplaced : Table
 unplaced = record { set = 0; start = 0; pages = 0 }
 
+-- §1.5, §5.14: no table is placed: in a fresh guest, and after RESET
 abbrev pub noTables : Tables
 noTables = record { devices = unplaced; collections = unplaced }
 
--- "A fresh guest has no VCPU, no frame, no mapping, and 256 interrupts."
+-- §1.5: a fresh guest of a width p, a start and a length; that nothing is mapped is said where the mapping is (§5.1)
 abbrev pub fresh : ℕ → ℕ → ℕ → Machine
 fresh width start len = record {
   memory = record { width = width; start = start; length = len };
@@ -101,7 +108,7 @@ fresh width start len = record {
   tables = noTables;
 }
 
--- the marks, as tests
+-- Notation: the marks of §1.9, as tests
 abbrev pub initialised : Machine → Bool
 initialised m = eqb (m .control .init) 1
 
@@ -111,7 +118,7 @@ isRunning m = eqb (m .control .running) 1
 abbrev pub isSet : Frame → Bool
 isSet f = eqb (f .set) 1
 
--- the machine with one part replaced
+-- Notation: the machine with one part replaced
 abbrev pub withControl : Control → Machine → Machine
 withControl c m = record {
   memory = m .memory;

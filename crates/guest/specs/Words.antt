@@ -12,6 +12,7 @@ use Rattle.guest.specs.declared.Table.{Table}
 use Rattle.guest.specs.declared.Tables.{Tables}
 use Rattle.guest.specs.Machine.{Machine}
 
+-- Inner: the proofs that the bytes of §1.7 give each number back use these; most numbers have 64 bits
 pub record MemoryWords (r : Memory) : Type 0 where
   pub width : r .width < 2 ^ 64
   pub start : r .start < 2 ^ 64
@@ -38,7 +39,7 @@ pub record RegionWords (r : Region) : Type 0 where
   pub base : r .base < 2 ^ 64
   pub count : r .count < 2 ^ 64
 
--- banks and VCPUs take 32 bits for each number
+-- Inner: banks and VCPUs take 32 bits for each number
 pub record BankWords (b : Bank) : Type 0 where
   pub latch : b .latch < 2 ^ 32
   pub level : b .level < 2 ^ 32
@@ -49,6 +50,7 @@ pub record VcpuWords (v : Vcpu) : Type 0 where
   pub bank : BankWords (v .bank)
   pub status : v .status < 2 ^ 32
 
+-- Inner: the places of the tables
 pub record TableWords (t : Table) : Type 0 where
   pub set : t .set < 2 ^ 64
   pub start : t .start < 2 ^ 64
@@ -58,7 +60,7 @@ pub record TablesWords (t : Tables) : Type 0 where
   pub devices : TableWords (t .devices)
   pub collections : TableWords (t .collections)
 
--- every number fits its place in the state's bytes
+-- Inner: every number fits its place in the state's bytes
 pub record Words (m : Machine) : Type 0 where
   pub memory : MemoryWords (m .memory)
   pub control : ControlWords (m .control)

@@ -3,14 +3,15 @@
 ghost use mathlib.Core.Path.{_≡_};
 ghost use Rattle.guest.specs.Machine.{view, fresh, noBank, noVcpu, Held};
 
-// The address width p in bits, and the run of guest memory.
+// §1.4: the address width p in bits, and the run of guest memory.
 pub struct Memory {
     pub width: u64,
     pub start: u64,
     pub length: u64,
 }
 
-// Marks are 0 or 1. irqsset: the interrupt count was set by hand. status: the distributor's STATUSR.
+// §1.5, §1.7: the marks, which are 0 or 1, and two numbers. init, itsinit: the INIT is done. irqs: the interrupt count. irqsset: it counts
+// as set (§3.14). status: the distributor's STATUSR (§4.14).
 pub struct Control {
     pub init: u64,
     pub running: u64,
@@ -20,43 +21,46 @@ pub struct Control {
     pub itsinit: u64,
 }
 
-// A base address that may be unset: set is 0 or 1.
+// §1.7: a base that may not be set: set is 0 or 1.
 pub struct Frame {
     pub set: u64,
     pub base: u64,
 }
 
+// §3.5: the frames that have one base: the distributor, the single redistributor run and the ITS.
 pub struct Frames {
     pub distributor: Frame,
     pub single: Frame,
     pub its: Frame,
 }
 
-// A redistributor region: room for count redistributors from base.
+// §3.7: a redistributor region: room for count redistributors from base.
 pub struct Region {
     pub base: u64,
     pub count: u64,
 }
 
+// The regions by their index.
 pub struct Regions {
     pub rows: [Region; 32],
     pub count: usize,
 }
 
-// A bank of 32 interrupts, a bit for each: latch, line level, trigger (bit set: edge).
+// §4.1: a bank of 32 interrupts, a bit for each in latch, level and trigger (bit set: edge).
 pub struct Bank {
     pub latch: u64,
     pub level: u64,
     pub trigger: u64,
 }
 
-// A VCPU with its bank of INTIDs 0 to 31 and its redistributor's STATUSR.
+// §3.1, §4.2: a VCPU with its own bank, INTIDs 0 to 31, and its redistributor's STATUSR.
 pub struct Vcpu {
     pub affinity: u64,
     pub bank: Bank,
     pub status: u64,
 }
 
+// The VCPUs as they were added.
 pub struct Vcpus {
     pub rows: [Vcpu; 64],
     pub count: usize,
@@ -68,13 +72,14 @@ pub struct Banks {
     pub count: usize,
 }
 
-// Where a table lies in memory: set is 0 or 1; pages of 4 KiB.
+// §5.4, §1.7: where a table lies in memory: set is 0 or 1; pages of 4 KiB.
 pub struct Table {
     pub set: u64,
     pub start: u64,
     pub pages: u64,
 }
 
+// §5.4: the two tables that are placed together.
 pub struct Tables {
     pub devices: Table,
     pub collections: Table,
@@ -97,7 +102,7 @@ pub struct Outcome {
     pub guest: Guest,
 }
 
-// What a question comes to: an errno, 0 for none, and the number asked for.
+// §2.1, §2.3: what a question comes to: an errno, 0 for none, and the number asked for.
 pub struct Reading {
     pub errno: u64,
     pub number: u64,
@@ -116,7 +121,7 @@ impl Guest {
 
     pub const FRESH_IRQS: u64 = 256;
 
-    // A fresh guest: no VCPU, no frame, no table placed, 256 interrupts.
+    // A fresh guest (§1.5).
     pub fn new(width: u64, start: u64, length: u64) -> Guest
         ensures { λ r. ⌜ (view r ≡ fresh width start length) × Held r ⌝ }
     {
@@ -164,7 +169,7 @@ impl Guest {
     }
 }
 
-// Latches and levels 0, every trigger level-sensitive.
+// A fresh shared bank (§4.3): latches and levels 0, every trigger level.
 pub fn fresh_bank() -> Bank
     ensures { λ r. ⌜ r ≡ noBank ⌝ }
 {
@@ -175,7 +180,7 @@ pub fn fresh_bank() -> Bank
     }
 }
 
-// A VCPU as it is added: its SGIs, INTIDs 0 to 15, are edge.
+// A VCPU as it is added (§3.1): its SGIs, INTIDs 0 to 15, are edge.
 pub fn fresh_vcpu(affinity: u64) -> Vcpu
     ensures { λ r. ⌜ r ≡ noVcpu affinity ⌝ }
 {

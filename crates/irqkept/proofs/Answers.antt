@@ -1,4 +1,4 @@
--- What the calls on interrupts and registers answer: 0 or an errno of the table; a number that is asked for fits.
+-- What the calls on interrupts and registers answer: 0 or an errno of §2.2; a number that is asked for fits.
 use Prim.Native.Nat.{ℕ, _≤_, _<_}
 use native.Mathlib.Omega.{arith}
 use mathlib.Core.Path.{_≡_, refl}
@@ -13,7 +13,7 @@ use Rattle.irqs.specs.Irqs.{irqPending, irqSet, irqClear, irqLine, irqTrigger}
 use Rattle.irqs.specs.Registers.{distributorRegister, registerFault, offsetOf, setGroup1, getGroup1, group5Fault, setGroup5, getGroup5, group7Fault, setGroup7, getGroup7}
 use Rattle.irqs.proofs.Answers.{Listed, fine, enxio, efault, ebusy, einval, irqPending-tells, irqSet-answers, irqClear-answers, irqLine-answers, irqTrigger-answers, setGroup1-answers, setGroup5-answers, setGroup7-answers}
 
--- an errno of a call on interrupts is one of the table
+-- an errno of a call on interrupts is one of §2.2
 pub in-table : {e : ℕ} → Listed e → listed e ≡ true
 unfolding listed
 in-table fine = refl
@@ -22,7 +22,7 @@ in-table efault = refl
 in-table ebusy = refl
 in-table einval = refl
 
--- every errno of the table is below 4,096
+-- every errno of §2.2 is below 4,096
 module _ (e : ℕ) where
   either : (n : ℕ) {b : Bool} → n < 4096 → (b ≡ true → e < 4096) → (eqb e n || b) ≡ true → e < 4096
   either n {b} l f = by (eqb e n) refl

@@ -1,4 +1,4 @@
--- Which VCPUs, INTIDs and line levels the calls take, and whose bit a read of pending gives. Assumes nothing.
+-- Which VCPUs, INTIDs and line levels the calls take (§4.8), and whose bit a read of pending gives (§4.2, §4.9). Assumes nothing.
 use Prim.Native.Nat.{ℕ, _-_, _/_, _%_, _^_, _≤_, _<_}
 use native.Mathlib.Nat.{mod-eq-of-lt, zero-div}
 use native.Mathlib.Omega.{arith}

@@ -1,4 +1,5 @@
--- "A call that names one VCPU for INTIDs below 32 changes no answer about another VCPU's bank."
+-- Banks stand apart (§4.16): after a call that names VCPU k and an INTID below 32, every question about VCPU j, another one, is answered
+-- as before.
 use Prim.Native.Nat.{ℕ, _-_, _/_, _%_, _<_}
 use mathlib.Core.Path.{_≡_, refl, ap, _∙_}
 use mathlib.Core.Bool.{Bool, true, false}

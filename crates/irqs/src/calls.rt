@@ -22,7 +22,7 @@ ghost use Rattle.guest.specs.Machine.{view, Held, Does};
 ghost use Rattle.irqs.specs.Spots.{spotOf, Stands};
 ghost use Rattle.irqs.specs.Irqs.{irqFault, irqPending, irqSet, irqClear, irqLine, irqTrigger};
 
-// What stops a call, 0 for nothing. A VCPU that is not there is a fault at every INTID.
+// What stops a call (§4.8), 0 for nothing. A VCPU that is not there is a fault at every INTID.
 fn irq_fault(g: Guest, vcpu: u64, intid: u64) -> u64
     requires { ⌜ Held g ⌝ }
     ensures { λ r. ⌜ r ≡ irqFault vcpu intid (view g) ⌝ }

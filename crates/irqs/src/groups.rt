@@ -1,4 +1,5 @@
-// The register groups: 1 (distributor), 5 (redistributor) and 7 (level words), each set and get. A value is 4 bytes wide.
+// The register groups: 1 (distributor, §4.11), 5 (redistributor, §4.12) and 7 (level words, §4.15), each set and get. A value is 4 bytes
+// wide.
 use super::Spot;
 use super::registers::distributor_read;
 use super::registers::distributor_register;

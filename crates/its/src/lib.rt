@@ -1,5 +1,5 @@
-// The ITS mapping commands: devices, collections, events, and where the two tables may lie. Each is tried once the ITS is
-// initialised and, but for placing, its tables are placed.
+// The ITS mapping commands, §5.4 to §5.13: devices, collections, events, and where the two tables may lie. Each is tried once the ITS
+// is initialised and, but for placing, its tables are placed (§5.3).
 use answers::Errno;
 use areas::Area;
 use areas::Areas;

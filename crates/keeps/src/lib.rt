@@ -36,7 +36,7 @@ ghost use Rattle.rules.specs.Rules.{
   rules,
 };
 
-// The address width and the run of guest memory.
+// The address width and the run of guest memory (§1.4).
 pub fn memory_ok(m: Memory) -> bool
     ensures { λ r. ⌜ r ≡ memoryOk m ⌝ }
 {
@@ -66,7 +66,7 @@ pub fn memory_ok(m: Memory) -> bool
     areas::ends_by(end, run)
 }
 
-// The marks, the interrupt count, which is 256 unless it was set, and the distributor's STATUSR.
+// The marks, the interrupt count, which is 256 unless it was set, and the distributor's STATUSR (§1.9).
 fn control_ok(m: Control) -> bool
     ensures { λ r. ⌜ r ≡ controlOk m ⌝ }
 {
@@ -94,7 +94,7 @@ fn control_ok(m: Control) -> bool
     m.irqs == 256
 }
 
-// A base that is set is a multiple of 64 KiB and its frame ends by the limit; one that is not is 0.
+// A frame (§1.10); one whose base is not set is all 0 (§1.7).
 fn frame_ok(end: u64, size: u64, f: Frame) -> bool
     ensures { λ r. ⌜ r ≡ frameOk end size f ⌝ }
 {
@@ -114,7 +114,7 @@ fn frame_ok(end: u64, size: u64, f: Frame) -> bool
     f.base == 0
 }
 
-// The count is tested before the size is made of it.
+// A region (§1.10). The count is tested before the size is made of it.
 fn region_ok(end: u64, r: Region) -> bool
     ensures { λ x. ⌜ x ≡ regionOk end r ⌝ }
 {
@@ -160,7 +160,7 @@ fn either_ok(single: Frame, regions: usize) -> bool
     true
 }
 
-// The bytes that the single run counts for: 128 KiB before INIT, 128 KiB for each VCPU after it.
+// The size of the single run (§3.6).
 fn run_size(s: &[u8], init: u64) -> u64
     requires { ⌜ Counted (now s) ⌝ }
     requires { ⌜ init ≡ decode (now s) .control .init ⌝ }
@@ -262,7 +262,7 @@ fn frames_apart(s: &[u8], size: u64, f: Frames) -> bool
     regions_apart(s)
 }
 
-// The frames. That they stand apart is asked last: only then is every size known to be a number of 64 bits.
+// The frames (§1.10). That they stand apart is asked last: only then is every size known to be a number of 64 bits.
 fn frames_ok(s: &[u8], end: u64, init: u64, f: Frames) -> bool
     requires { ⌜ Counted (now s) ⌝ }
     requires { ⌜ (end ≡ limitOf (decode (now s))) × (init ≡ decode (now s) .control .init) × (f ≡ decode (now s) .frames) ⌝ }
@@ -307,7 +307,7 @@ fn covers(s: &[u8], n: u64) -> bool
     left == 0
 }
 
-// What INIT needs stands once it is done.
+// What must stand after VGIC INIT (§1.11).
 fn init_ok(s: &[u8], init: u64, f: Frames) -> bool
     requires { ⌜ Counted (now s) ⌝ }
     requires { ⌜ (init ≡ decode (now s) .control .init) × (f ≡ decode (now s) .frames) ⌝ }
@@ -331,7 +331,7 @@ fn init_ok(s: &[u8], init: u64, f: Frames) -> bool
     covers(s, vcpus as u64)
 }
 
-// SGIs, bits 15:0 of the VCPU's bank, are edge with level 0; STATUSR has four bits.
+// SGIs, [15:0] of the VCPU's bank, are edge with level 0 (§1.12); STATUSR is below 16 (§1.9).
 fn vcpu_ok(v: Vcpu) -> bool
     ensures { λ r. ⌜ r ≡ vcpuOk v ⌝ }
 {
@@ -379,7 +379,7 @@ fn taken_from(s: &[u8], from: usize, affinity: u64) -> bool
     false
 }
 
-// No two VCPUs have one affinity.
+// No affinity occurs twice (§1.12).
 fn distinct_ok(s: &[u8]) -> bool
     requires { ⌜ Counted (now s) ⌝ }
     ensures { λ r. ⌜ r ≡ distinct (decode (now (s .entry)) .vcpus) ⌝ }
@@ -406,7 +406,7 @@ fn vcpus_ok(s: &[u8]) -> bool
     distinct_ok(s)
 }
 
-// A table's place is a whole number of pages inside memory; one that is not placed is 0.
+// A table (§1.13); one that is not placed is all 0 (§1.7).
 fn table_ok(m: Memory, t: Table) -> bool
     ensures { λ r. ⌜ r ≡ tableOk m t ⌝ }
 {
@@ -439,7 +439,7 @@ fn table_ok(m: Memory, t: Table) -> bool
     t.pages == 0
 }
 
-// The two tables are placed together, after ITS INIT, and do not overlap.
+// Both tables (§1.13).
 fn tables_ok(s: &[u8], m: Memory, itsinit: u64) -> bool
     requires { ⌜ Counted (now s) ⌝ }
     requires { ⌜ (m ≡ decode (now s) .memory) × (itsinit ≡ decode (now s) .control .itsinit) ⌝ }

@@ -1,4 +1,4 @@
--- What the changing calls answer: 0 or an errno of the table.
+-- What the changing calls answer: 0 or an errno of §2.2.
 use Prim.Native.Nat.{ℕ, _%_}
 use mathlib.Core.Path.{_≡_, refl}
 use mathlib.Core.Bool.{true, _&&_, _||_}
@@ -16,7 +16,7 @@ use Rattle.frames.specs.Init.{hasPlaces, vgicInit}
 use Rattle.kept.specs.Good.{listed}
 use Rattle.kept.proofs.Choice.{chosen}
 
--- an errno of the table
+-- an errno of §2.2
 abbrev Fair : Result → Type 0
 Fair r = listed (r .errno) ≡ true
 

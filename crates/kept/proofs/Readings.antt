@@ -1,4 +1,4 @@
--- What the questions answer: 0 or an errno of the table, and of a good machine a number that fits.
+-- What the questions answer: 0 or an errno of §2.2, and of a good machine a number that fits.
 use Prim.Native.Nat.{ℕ, _+_, _-_, _*_, _/_, _%_, _≤_, _<_, _^_}
 use native.Mathlib.Omega.{arith}
 use mathlib.Core.Path.{_≡_, refl}
@@ -26,7 +26,7 @@ use Rattle.kept.specs.Good.{Good, listed}
 use Rattle.kept.proofs.Choice.{chosen, choose-by, and-left, and-right}
 use Rattle.kept.proofs.Parts.{parts, limit-le, places}
 
--- an errno of the table, and a number below a bound if the machine is good
+-- an errno of §2.2, and a number below a bound if the machine is good
 record Told (m : Machine) (bound : ℕ) (r : Reading) : Type 0 where
   listed : listed (r .errno) ≡ true
   small : Good m → r .number < bound

@@ -1,7 +1,8 @@
 -- The guest's state as bytes, little endian. From 0: 23 words of 8 bytes, with the number of regions and of VCPUs last; from 184:
 -- regions, 16 bytes each, room for 32; from 696: VCPUs, 20 bytes each, room for 64; from 1,976: shared banks, 12 bytes each, room for
--- 31, as many as the interrupt count has, and four bytes that nothing reads; from 2,352 the mapping: its three counts of 8 bytes, then room for 32 devices of 24 bytes,
--- 16 collections of 4 and 1,024 events of 8. What lies past a table's last row is never read, and stays as it is.
+-- 31, as many as the interrupt count has, and four bytes that nothing reads; from 2,352 the mapping: its three counts of 8 bytes, then
+-- room for 32 devices of 24 bytes, 16 collections of 4 and 1,024 events of 8. What lies past a table's last row is never read, and stays
+-- as it is.
 use Prim.Native.Nat.{ℕ, _+_}
 use mathlib.Core.Path.{_≡_}
 use mathlib.Core.Bool.{Bool, true, _&&_}
@@ -20,10 +21,11 @@ use Rattle.guest.specs.declared.Table.{Table}
 use Rattle.guest.specs.declared.Tables.{Tables}
 use Rattle.guest.specs.Machine.{Machine, sharedCount}
 
+-- §1.2: the length of a state
 abbrev pub size : ℕ
 size = 11400
 
--- the words of each part, and the part that such words stand for
+-- §1.7: the numbers, each in 8 bytes: the words of each part, and the part that the bytes of a state stand for
 abbrev pub memoryWords : Memory → List ℕ
 memoryWords r = r .width ∷ r .start ∷ r .length ∷ []
 
@@ -64,7 +66,7 @@ tableAt s at = record { set = leAt s at 8; start = leAt s (at + 8) 8; pages = le
 unfoldable pub tablesOf : List ℕ → Tables
 tablesOf s = record { devices = tableAt s 120; collections = tableAt s 144 }
 
--- rows
+-- §1.7: the rows: the words of each, the row that its bytes stand for, and its bytes. Words have 8 bytes in a region, 4 in VCPUs and banks
 abbrev pub regionWords : Region → List ℕ
 regionWords r = r .base ∷ r .count ∷ []
 
@@ -96,7 +98,7 @@ bankOf s = record { latch = leAt s 0 4; level = leAt s 4 4; trigger = leAt s 8 4
 unfoldable pub bankBytes : Bank → List ℕ
 bankBytes b = bytesAll (bytesOf 4) (bankWords b)
 
--- the machine that bytes stand for
+-- §1.7: the machine that bytes stand for, with as many rows as the counts say; of shared banks as many as the interrupt count has (§4.2)
 unfoldable pub decode : List ℕ → Machine
 decode s = record {
   memory = memoryOf s;
@@ -108,7 +110,7 @@ decode s = record {
   tables = tablesOf s;
 }
 
--- the first 23 words
+-- §1.7: the first 23 words: the numbers and the counts of regions and VCPUs
 abbrev pub headWords : Memory → Control → Frames → Tables → ℕ → ℕ → List ℕ
 headWords r c f t regions vcpus =
     memoryWords r ++ (controlWords c ++ (framesWords f ++ (tablesWords t ++ (regions ∷ vcpus ∷ []))))
@@ -118,17 +120,17 @@ headBytes m =
     bytesAll (bytesOf 8)
     (headWords (m .memory) (m .control) (m .frames) (m .tables) (length (m .regions)) (length (m .vcpus)))
 
--- the bytes with a machine stored in them
+-- §1.7: the bytes with a machine stored in them: its numbers and its rows, and no byte behind the last row of a table
 unfoldable pub stored : Machine → List ℕ → List ℕ
 stored m s =
     putAt (putAt (putAt (putAt s 1976 (bytesAll bankBytes (m .shared))) 696 (bytesAll vcpuBytes (m .vcpus)))
     184 (bytesAll regionBytes (m .regions))) 0 (headBytes m)
 
--- the numbers of rows are within the room for them
+-- §1.9: the numbers of rows are within §1.6. Of shared banks there is room for 31, which each interrupt count of §3.14 keeps to
 unfoldable pub countsOk : List ℕ → Bool
 countsOk s = leb (leAt s 168 8) 32 && (leb (leAt s 176 8) 64 && leb (sharedCount (leAt s 40 8)) 31)
 
--- bytes of a state's length whose numbers of rows fit: what reading a row asks
+-- Inner: bytes of a state's length whose numbers of rows fit: what reading a row asks
 pub record Counted (s : List ℕ) : Type 0 where
   pub long : length s ≡ size
   pub counts : countsOk s ≡ true

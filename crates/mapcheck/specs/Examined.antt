@@ -11,13 +11,13 @@ use Rattle.mapping.specs.MapRules.{smallDevice}
 use Rattle.maplayout.specs.MapLayout.{decodeMap}
 use Rattle.maplayout.specs.MapLayout as maplayout
 
--- every number of rows fits, and the guest keeps its own rules
+-- Inner: every number of rows fits, and the guest keeps its own rules
 pub record Examined (s : List ℕ) : Type 0 where
   pub guest : layout.Counted s
   pub mapping : maplayout.Counted s
   pub rules : rules (decode s) ≡ true
 
--- the mapping's numbers of rows fit, and no device has more than 16 bits
+-- Inner: the mapping's numbers of rows fit, and no device has an ID of 65,536 or more or more than 16 bits
 pub record Sized (s : List ℕ) : Type 0 where
   pub counted : maplayout.Counted s
   pub small : all smallDevice (decodeMap s .devices) ≡ true

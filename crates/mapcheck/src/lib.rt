@@ -31,10 +31,10 @@ ghost use Rattle.maplayout.specs.MapLayout.{decodeMap, Counted};
 ghost use Rattle.its.specs.Forms.{isFormed};
 ghost use Rattle.mapcheck.specs.Examined.{Examined, Sized};
 
-// Entries of 8 bytes in a page of a table.
+// Entries of 8 bytes in a page of a table (§5.4).
 const PAGE_ENTRIES: u64 = 512;
 
-// ICIDs are below this.
+// ICIDs are below this (§5.8).
 const ICIDS: u64 = 65536;
 
 // Whether no row stands.

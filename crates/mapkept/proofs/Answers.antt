@@ -1,4 +1,4 @@
--- What the mapping commands answer: 0 or an errno of the table.
+-- What the mapping commands answer: 0 or an errno of §2.2.
 use Prim.Native.Nat.{ℕ, _%_, _^_}
 use mathlib.Core.Path.{_≡_, refl}
 use mathlib.Core.Bool.{true, _&&_}
@@ -39,7 +39,7 @@ use Rattle.mapping.specs.Commands.{
 abbrev Listed : ℕ → Type 0
 Listed e = listed e ≡ true
 
--- an errno of the table
+-- an errno of §2.2
 abbrev Fair : MapResult → Type 0
 Fair r = Listed (r .errno)
 

@@ -14,7 +14,7 @@ use Rattle.mapping.specs.declared.Collection.{Collection}
 use Rattle.mapping.specs.declared.Event.{Event}
 use Rattle.mapping.specs.Mapped.{Mapped}
 
--- the words of each row, the row that such words stand for, and its bytes
+-- §1.7, §5.1: the words of each row, the row that its bytes stand for, and its bytes. Words have 8 bytes in a device, 2 in the others
 abbrev pub deviceWords : Device → List ℕ
 deviceWords d = d .id ∷ d .itt ∷ d .bits ∷ []
 
@@ -42,7 +42,7 @@ eventOf s = record { device = leAt s 0 2; event = leAt s 2 2; lpi = leAt s 4 2; 
 unfoldable pub eventBytes : Event → List ℕ
 eventBytes e = bytesAll (bytesOf 2) (eventWords e)
 
--- the mapping that bytes stand for
+-- §1.7, §5.1: the mapping that bytes stand for, with as many rows as the counts say
 unfoldable pub decodeMap : List ℕ → Mapped
 decodeMap s = record {
   collections = rowsOf collectionOf 4 (leAt s 2360 8) (drop 3144 s);
@@ -50,24 +50,24 @@ decodeMap s = record {
   events = rowsOf eventOf 8 (leAt s 2368 8) (drop 3208 s);
 }
 
--- the three counts
+-- §1.7: the three counts
 abbrev pub countWords : Mapped → List ℕ
 countWords k = length (k .devices) ∷ length (k .collections) ∷ length (k .events) ∷ []
 
 unfoldable pub countBytes : Mapped → List ℕ
 countBytes k = bytesAll (bytesOf 8) (countWords k)
 
--- the bytes with a mapping stored in them
+-- §1.7: the bytes with a mapping stored in them: its counts and its rows, and no byte behind the last row of a table
 unfoldable pub storedMap : Mapped → List ℕ → List ℕ
 storedMap k s =
     putAt (putAt (putAt (putAt s 3208 (bytesAll eventBytes (k .events))) 3144 (bytesAll collectionBytes (k .collections)))
     2376 (bytesAll deviceBytes (k .devices))) 2352 (countBytes k)
 
--- the numbers of rows are within the room for them
+-- §1.9, §1.14: the numbers of rows are within §1.6
 unfoldable pub mapCountsOk : List ℕ → Bool
 mapCountsOk s = leb (leAt s 2352 8) 32 && (leb (leAt s 2360 8) 16 && leb (leAt s 2368 8) 1024)
 
--- bytes of a state's length whose numbers of rows fit: what reading a row asks
+-- Inner: bytes of a state's length whose numbers of rows fit: what reading a row asks
 pub record Counted (s : List ℕ) : Type 0 where
   pub long : length s ≡ size
   pub counts : mapCountsOk s ≡ true

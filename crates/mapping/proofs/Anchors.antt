@@ -36,7 +36,7 @@ abbrev pub reading : Event → Collection → Reading
 reading e c = record { errno = 0; number = e .lpi + 65536 * c .pe }
 
 module _ (k : Mapped) where
-  -- "lookup (lpi + 65,536 × pe)": of the event's row and its collection's, wherever they stand
+  -- §5.13: the LPI of the event's row and the pe of its collection's, wherever they stand
   module _ (es : Rises eventKey (k .events)) (cs : Rises collectionKey (k .collections)) where
     pub lookup-found : (e : Event) (c : Collection) → In e (k .events) → In c (k .collections) → c .icid ≡ e .icid
         → lookup (e .device) (e .event) k ≡ reading e c

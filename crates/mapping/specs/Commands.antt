@@ -1,4 +1,4 @@
--- The mapping commands, on the rows. Each is tried once the ITS is initialised and its tables are placed.
+-- The mapping commands, §5.4 to §5.13, on the rows. That the guest is ready for them (§5.3) was tested before.
 use Prim.Native.Nat.{ℕ, _+_, _*_, _%_, _^_}
 use mathlib.Core.Bool.{Bool, _&&_, not}
 use mathlib.Core.List.{List, _∷_, map}
@@ -16,14 +16,15 @@ use Rattle.mapping.specs.declared.Collection.{Collection}
 use Rattle.mapping.specs.declared.Event.{Event}
 use Rattle.mapping.specs.Mapped.{Mapped, MapResult, refuse, accept, deviceKey, collectionKey, eventKey, findKey, placeOf, insertedAt, removedAt, kept, findEvent, ittArea, noDevice, noCollection, noEvent}
 
--- the entries of the device table: 8 bytes each
+-- §5.4, §5.6: the device table's number of entries, 512 in a page
 abbrev pub deviceEntries : Machine → ℕ
 deviceEntries m = 512 * m .tables .devices .pages
 
--- the tables in memory, in the order device table, collection table, ITTs by device ID
+-- §5.5: the device table, the collection table, the ITTs by device ID. Tables are compared with these alone (§3.4)
 unfoldable pub tableAreas : Machine → List Device → List Area
 tableAreas m ds = tableArea (m .tables .devices) ∷ tableArea (m .tables .collections) ∷ map ittArea ds
 
+-- Notation: the index of a row by its ID, whether a row with this ID stands (is mapped), and that row
 abbrev pub indexOfDevice : ℕ → Mapped → ℕ
 indexOfDevice id k = findKey deviceKey id (k .devices)
 
@@ -45,6 +46,7 @@ indexOfEvent device event k = findEvent device event (k .events)
 abbrev pub hasEvent : ℕ → ℕ → Mapped → Bool
 hasEvent device event k = ltb (indexOfEvent device event k) (length (k .events))
 
+-- Notation: a mapping with one of its lists replaced
 abbrev pub withDevices : List Device → Mapped → Mapped
 withDevices ds k = record { collections = k .collections; devices = ds; events = k .events }
 
@@ -54,8 +56,8 @@ withCollections cs k = record { collections = cs; devices = k .devices; events =
 abbrev pub withEvents : List Event → Mapped → Mapped
 withEvents es k = record { collections = k .collections; devices = k .devices; events = es }
 
--- "Device(id, ITT, bits): id not below the table's entries -22; bits not 1 to 16 -22; ITT not a multiple of 256 -22; mapped -17;
--- 33rd -12; the 8 × 2^bits bytes outside memory -14; overlap with another table -22."
+-- §5.6: what stops a device from being mapped, in order; 0 for nothing. A refusal for a test that must not hold stands beside the test.
+-- Those for tests that must hold stand below, the first test's last
 unfoldable pub deviceFault : Device → Machine → Mapped → ℕ
 deviceFault d m k =
     choose (ltb (d .id) (deviceEntries m))
@@ -70,6 +72,7 @@ deviceFault d m k =
     22)
     22
 
+-- §5.6: else it is one row more, at its place among the rising IDs
 unfoldable pub mapDevice : ℕ → ℕ → ℕ → Machine → Mapped → MapResult
 mapDevice id itt bits m k =
     let d : Device = record { id = id; itt = itt; bits = bits } in
@@ -78,7 +81,7 @@ mapDevice id itt bits m k =
     (accept (withDevices (insertedAt (placeOf deviceKey id (k .devices)) d (k .devices)) k))
     (refuse k e)
 
--- "Removal: not mapped -2; its events go too."
+-- §5.7: the events that stay are those of other devices. A number that no device can have is refused as not mapped: no row has it (§1.14)
 abbrev pub ofOther : ℕ → Event → Bool
 ofOther id e = not (eqb (e .device) id)
 
@@ -92,7 +95,8 @@ unmapDevice id k =
     }))
     (refuse k 2)
 
--- "Collection(icid below 65,536, pe): icid larger or pe not below the VCPUs -22; 17th -12; one that stands gets the new pe."
+-- §5.8: both numbers are tested before all else. A collection that is mapped takes the new pe, also where there are 16; the others are
+-- counted
 unfoldable pub mapCollection : ℕ → ℕ → Machine → Mapped → MapResult
 mapCollection icid pe m k =
     let c : Collection = record { icid = icid; pe = pe } in
@@ -103,7 +107,7 @@ mapCollection icid pe m k =
     (accept (withCollections (insertedAt (placeOf collectionKey icid (k .collections)) c (k .collections)) k))))
     (refuse k 22)
 
--- "Removal: not there -2; named by an event -22."
+-- §5.9: whether an event names the collection is asked only of one that is mapped
 abbrev pub names : ℕ → Event → Bool
 names icid e = eqb (e .icid) icid
 
@@ -117,8 +121,8 @@ unmapCollection icid k =
     (accept (withCollections (removedAt (indexOfCollection icid k) (k .collections)) k)))
     (refuse k 2)
 
--- "Event(device, event, lpi, icid): no device -2; event not below 2^bits -22; lpi not 8,192 to 65,535 -22; no collection -2; mapped
--- -17; 1,025th -12."
+-- §5.10: what stops an event from being mapped, in order; 0 for nothing. No collection has an ICID above 65,535 (§1.14), so that such
+-- an ICID is refused as not mapped
 unfoldable pub eventFault : ℕ → ℕ → ℕ → ℕ → Mapped → ℕ
 eventFault device event lpi icid k =
     choose (hasDevice device k)
@@ -132,6 +136,7 @@ eventFault device event lpi icid k =
     22)
     2
 
+-- §5.10: else it is one row more, at its place; LPIs are not compared with those of other events
 unfoldable pub mapEvent : ℕ → ℕ → ℕ → ℕ → Mapped → MapResult
 mapEvent device event lpi icid k =
     let x : Event = record { device = device; event = event; lpi = lpi; icid = icid } in
@@ -140,13 +145,14 @@ mapEvent device event lpi icid k =
     (accept (withEvents (insertedAt (placeOf eventKey (eventKey x) (k .events)) x (k .events)) k))
     (refuse k e)
 
--- "Discard, move and lookup (lpi + 65,536 × pe): -2 where anything named is missing."
+-- §5.11: the event is taken out. Here and in the next two the device is not asked for: an event that is mapped has one (§1.14)
 unfoldable pub discard : ℕ → ℕ → Mapped → MapResult
 discard device event k =
     choose (hasEvent device event k)
     (accept (withEvents (removedAt (indexOfEvent device event k) (k .events)) k))
     (refuse k 2)
 
+-- §5.12: the event gets the collection and keeps its LPI; the collection that it has is taken too
 abbrev pub movedTo : ℕ → Event → Event
 movedTo icid e = record { device = e .device; event = e .event; lpi = e .lpi; icid = icid }
 
@@ -156,6 +162,7 @@ move device event icid k =
     (accept (withEvents (set (k .events) (indexOfEvent device event k) (movedTo icid (getD (k .events) (indexOfEvent device event k) noEvent))) k))
     (refuse k 2)
 
+-- §5.13: LPI + 65,536 × pe. The event's collection is mapped (§1.14)
 unfoldable pub lookup : ℕ → ℕ → Mapped → Reading
 lookup device event k =
     let e = getD (k .events) (indexOfEvent device event k) noEvent in
@@ -163,8 +170,8 @@ lookup device event k =
     (record { errno = 0; number = e .lpi + 65536 * getD (k .collections) (indexOfCollection (e .icid) k) noCollection .pe })
     (record { errno = 2; number = 0 })
 
--- "Placing the device and the collection table (start and 4 KiB pages each): mapping not empty -16; start not a multiple of 4,096 or
--- pages not 1 to 128 -22; outside memory -14; the two overlap -22." Judged by fault over both tables.
+-- §5.4: what stops the two tables from being placed, in order; 0 for nothing. Each test is made of both tables before the next test is
+-- made of either
 abbrev pub isEmpty : Mapped → Bool
 isEmpty k = eqb (length (k .collections)) 0 && (eqb (length (k .devices)) 0 && eqb (length (k .events)) 0)
 

@@ -1,4 +1,4 @@
--- Every number of a mapping fits its place in the state's bytes: 8 bytes for a device's, 2 for any other.
+-- Inner: every number of a mapping fits its place in the state's bytes: 8 bytes for a device's, 2 for any other.
 use Prim.Native.Nat.{_<_, _^_}
 use Rattle.lists.proofs.All.{All}
 use Rattle.mapping.specs.declared.Device.{Device}

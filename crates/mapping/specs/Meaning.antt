@@ -1,5 +1,5 @@
--- What the test of a mapping says, rule by rule, in relations between its rows and the guest's numbers. Proofs of both directions are in
--- proofs/Meaning.
+-- §1.14 once more, rule by rule, as relations between the rows and the guest's numbers. That the test of MapRules says the same is proved
+-- both ways in proofs/Meaning.
 use Prim.Native.Nat.{_*_, _%_, _^_, _≤_, _<_}
 use mathlib.Core.Path.{_≡_}
 use mathlib.Core.Bool.{true, false}
@@ -18,6 +18,7 @@ use Rattle.mapping.specs.Mapped.{Mapped, empty, eventKey, ittArea}
 use Rattle.mapping.specs.Commands.{tableAreas}
 use Rattle.mapping.specs.MapRules.{isPlaced}
 
+-- §1.14: numbers that §5.8 and §5.6 take
 pub record CollectionRules (m : Machine) (c : Collection) : Type 0 where
   pub icid : c .icid < 65536
   pub pe : c .pe < length (m .vcpus)
@@ -29,14 +30,14 @@ pub record DeviceRules (m : Machine) (d : Device) : Type 0 where
   pub page : d .itt % 256 ≡ 0
   pub within : Inside (memoryArea (m .memory)) (ittArea d)
 
--- an event's device is mapped, and has room for it
+-- §1.14, §5.10: an event's device is mapped, and has room for it
 pub record Owned (ds : List Device) (e : Event) : Type 0 where
   pub device : Device
   pub listed : In device ds
   pub id : device .id ≡ e .device
   pub small : e .event < 2 ^ device .bits
 
--- an event's LPI, and its collection, which is mapped
+-- §1.14, §5.10: an event's LPI, and its collection, which is mapped
 pub record Fit (cs : List Collection) (e : Event) : Type 0 where
   pub low : 8192 ≤ e .lpi
   pub high : e .lpi ≤ 65535
@@ -44,7 +45,7 @@ pub record Fit (cs : List Collection) (e : Event) : Type 0 where
   pub listed : In collection cs
   pub icid : collection .icid ≡ e .icid
 
--- limits; each ID once; each row by itself; no two tables share a byte; each event with its device and its collection
+-- §1.14: limits; each ID once; each row by itself; no two tables share a byte; each event with its device and its collection
 pub record MappingRules (m : Machine) (k : Mapped) : Type 0 where
   pub few-collections : length (k .collections) ≤ 16
   pub few-devices : length (k .devices) ≤ 32
@@ -58,7 +59,7 @@ pub record MappingRules (m : Machine) (k : Mapped) : Type 0 where
   pub owned : All (Owned (k .devices)) (k .events)
   pub fit : All (Fit (k .collections)) (k .events)
 
--- where no tables are placed, nothing is mapped
+-- §1.14: where no tables are placed, nothing is mapped
 pub record MapMeaning (m : Machine) (k : Mapped) : Type 0 where
   pub placed : isPlaced m ≡ true → MappingRules m k
   pub unplaced : isPlaced m ≡ false → k ≡ empty

@@ -1,5 +1,5 @@
-// The ITS mapping as the code holds it: fixed arrays of devices, collections and events with their counts. Rows stand in rising
-// order; what lies past a count is never read.
+// The ITS mapping (§5.1) as the code holds it: an array for each kind of row, as long as §1.6 lets it be, and the number of its rows in
+// use. Rows stand in rising order; what lies past a count is never read.
 ghost use mathlib.Core.Path.{_≡_};
 ghost use Prim.Native.Nat.{_≤_, _<_};
 ghost use lib.ListN.{set};
@@ -9,19 +9,20 @@ ghost use Rattle.mapping.specs.Mapped.{placeOf, insertedAt, removedAt, k
 ghost use Rattle.mapping.specs.Commands.{indexOfDevice, indexOfCollection, indexOfEvent, names, ofOther};
 ghost use Rattle.mapping.specs.Commands.{withDevices, withCollections, withEvents};
 
-// A mapped device: its ID, the address of its interrupt translation table and the number of its event ID's bits.
+// §5.1: a mapped device, by its ID: the address of its interrupt translation table and the number of bits of its event IDs.
 pub struct Device {
     pub id: u64,
     pub itt: u64,
     pub bits: u64,
 }
 
+// §5.1: a mapped collection, by its ICID, and the number of the VCPU that it is for.
 pub struct Collection {
     pub icid: u64,
     pub pe: u64,
 }
 
-// Every number of an event is below 65,536.
+// §5.1: a mapped event, by its device and its event ID: its LPI and the ICID of its collection. Every number is below 65,536.
 pub struct Event {
     pub device: u16,
     pub event: u16,

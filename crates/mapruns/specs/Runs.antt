@@ -1,5 +1,5 @@
--- The numbers of document 01, call by call, for its sections on mapping commands and table bytes, and the main run. Beside each call stand
--- its answer and what it leaves in the lent memory.
+-- §10.9: the numbers of docs/DEFINITION.md, call by call, for its parts 5 to 9, and the main run. Beside each call stand its answer and
+-- what it leaves in the lent memory.
 use Rattle.step.specs.Run.{Runs, unmade}
 use Rattle.mapruns.specs.Mapping.{mapping}
 use Rattle.mapruns.specs.Restoring.{restoring}

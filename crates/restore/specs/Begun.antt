@@ -14,7 +14,7 @@ use Rattle.maplayout.proofs.Round.{MapRoom}
 use Rattle.tables.specs.Restored.{Out, fault, found}
 use Rattle.restore.specs.Parts.{fewBits}
 
--- s is s₀ with the mapping k stored in it: k was read so far, and fits its place in the bytes
+-- Inner: s is s₀ with the mapping k stored in it: k was read so far, and fits its place in the bytes
 pub record Over (s₀ : List ℕ) (k : Mapped) (s : List ℕ) : Type 0 where
   pub guest : Counted s₀
   pub rules : rules (decode s₀) ≡ true
@@ -23,17 +23,17 @@ pub record Over (s₀ : List ℕ) (k : Mapped) (s : List ℕ) : Type 0 where
   pub few : all fewBits (k .devices) ≡ true
   pub is : s ≡ storedMap k s₀
 
--- a mapping was read into s, over some bytes
+-- Inner: a mapping was read into s, over some bytes
 pub record Begun (s : List ℕ) : Type 0 where
   pub from : List ℕ
   pub rows : Mapped
   pub over : Over from rows s
 
--- an errno and the fault, or 0 and the mapping that the bytes now hold
+-- Inner: an errno and the fault, or 0 and the mapping that the bytes now hold
 pub record Gives (s₀ : List ℕ) (out : Out) (r : ℕ) (s : List ℕ) : Type 0 where
   pub stops : (r ≡ 0 → ⊥) → out ≡ fault r
   pub reads : r ≡ 0 → (k : Mapped) × (out ≡ found k) × Over s₀ k s
 
--- a part of a restore, on whatever mapping was read before it
+-- Inner: a part of a restore, on whatever mapping was read before it
 abbrev pub Steps : (Machine → Mapped → Out) → List ℕ → ℕ → List ℕ → Type 0
 Steps part s r t = (s₀ : List ℕ) (k : Mapped) → Over s₀ k s → Gives s₀ (part (decode s₀) k) r t

@@ -1,4 +1,4 @@
--- A device table or an ITT as chained entries: true for a device table.
+-- Inner: a device table or an ITT as chained entries: true for a device table.
 use Prim.Native.Nat.{ℕ, _/_}
 use mathlib.Core.Bool.{Bool, true, false}
 use mathlib.Core.List.{List}
@@ -20,7 +20,7 @@ unfoldable pub capOf : Bool → ℕ
 capOf true = deviceCap
 capOf false = eventCap
 
--- computes to deviceSlots and to eventSlots
+-- Inner: computes to deviceSlots and to eventSlots
 unfoldable pub slotsOf : Bool → List ℕ → Slots
 slotsOf device t = record {
   size = length t / 8;

@@ -14,15 +14,15 @@ use Rattle.mapping.specs.declared.Device.{Device}
 use Rattle.mapping.specs.Mapped.{Mapped, ittArea}
 use Rattle.mapping.specs.Commands.{tableAreas}
 
--- the bytes of an area of a run of memory
+-- Inner: the bytes of an area of a run of memory
 abbrev pub bytesIn : Memory → List ℕ → Area → List ℕ
 bytesIn r mem a = take (a .size) (drop (a .start - r .start) mem)
 
--- at most 16 bits of event ID: the size of the ITT is then a number of the code
+-- Inner: at most 16 bits of event ID: the size of the ITT is then a number of the code
 abbrev pub fewBits : Device → Bool
 fewBits d = leb (d .bits) 16
 
--- "size -22; 33rd -12; ITT outside memory -14; overlap -22"; 0 for none
+-- Inner: the faults of §9.5 behind next, in order; 0 for none
 unfoldable pub readFault : Machine → Device → Mapped → ℕ
 readFault m d k =
     choose (leb (d .bits) 16)

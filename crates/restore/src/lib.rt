@@ -1,5 +1,5 @@
 // A restore: the ITS tables in lent guest memory are read back into the mapping of a state's bytes, row by row. Collections come
-// first, then each device with its events. Faults are met in the order of the definitions; the first gives the errno. The bytes are a
+// first, then each device with its events. Faults are met in the order of §9.3 to §9.7; the first gives the errno. The bytes are a
 // copy that the caller drops where there is a fault.
 mod places; // where tables lie in memory
 mod rows; // the collections read so far

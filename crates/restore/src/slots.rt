@@ -11,7 +11,7 @@ ghost use Rattle.restore.specs.Both.{validOf, nextOf, capOf, slotsOf};
 // The bytes of an entry.
 pub const ENTRY: usize = 8;
 
-// The largest distance that an entry has room for: it may stand for a larger one.
+// The caps of §7.2: such a next may stand for a larger distance.
 const DEVICE_CAP: u64 = 16383;
 
 const EVENT_CAP: u64 = 65535;
@@ -87,7 +87,7 @@ pub fn follow(device: bool, t: &[u8], i: usize) -> Next
     }
     let j = i + d;
     if next < cap_of(device) {
-        // Below the cap the distance is exact: a blank there is a fault.
+        // §9.6: below the cap the distance is exact, and a blank there is a fault.
         if valid_of(device, entry_at(t, j)) {
             return Next::At(j);
         }

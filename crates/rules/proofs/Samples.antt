@@ -34,7 +34,7 @@ fresh-sound width start size e =
     rules-whole (fresh width start size)
     (record { memory = e; control = refl; frames = refl; init = refl; vcpus = refl; shared = refl; its = refl; tables = refl })
 
--- three VCPUs in the regions of samples P5 and P1, the ITS frame at a given place, both tables placed, the VCPUs running
+-- three VCPUs in the two regions of §12.5, the ITS frame at a given place, both tables placed, the VCPUs running
 abbrev sample : ℕ → Machine
 sample its = record {
   memory = record { width = 40; start = 0x40000000; length = 0x10000 };
@@ -57,7 +57,7 @@ pub sample-sound : rules (sample 0x8120000) ≡ true
 unfolding rules memoryOk irqsOk controlOk frameOk regionOk endsBy all framesOk apart strikes struck overlaps findIx standing total initOk vcpuOk vcpusOk taken distinct tableOk inside tablesOk itsOk getField
 sample-sound = refl
 
--- P1's region ends at 0x08120000: a frame that starts 64 KiB before that overlaps it
+-- §12.1: the second region ends at 0x08120000: a frame that starts 64 KiB before that overlaps it
 pub sample-unsound : rules (sample 0x8110000) ≡ false
 unfolding rules memoryOk irqsOk controlOk frameOk regionOk endsBy all framesOk apart strikes struck overlaps findIx standing total initOk vcpuOk vcpusOk taken distinct tableOk inside tablesOk itsOk getField
 sample-unsound = refl

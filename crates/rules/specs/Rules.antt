@@ -1,4 +1,4 @@
--- The rules of document 01 that a guest's state can break: what makes it sound. The mapping's rules stand with the mapping.
+-- The rules of §1.8 but for those of the mapping (§1.14), which are in crates/mapping/specs/MapRules.
 use Prim.Native.Nat.{ℕ, _+_, _*_, _%_, _^_}
 use mathlib.Core.Path.{_≡_}
 use mathlib.Core.Bool.{Bool, true, _&&_, _||_, not}
@@ -19,8 +19,7 @@ use Rattle.guest.specs.declared.Guest.{Guest}
 use Rattle.guest.specs.Machine.{Machine, Held, view, initialised, isSet, sharedCount}
 use Rattle.rules.specs.Standing.{standing, runSize, regionArea, total, distributorSize, itsSize}
 
--- "an address width p (36 to 52) and one run of guest memory: start and length are multiples of 4,096, length 4,096 to 2^30, end at
--- most 2^p"
+-- §1.4, §1.9: what set-up asks of the width p and of the run of memory, and each state keeps; 1,073,741,824 is 2^30
 unfoldable pub memoryOk : Memory → Bool
 memoryOk r =
     leb 36 (r .width) && (leb (r .width) 52
@@ -28,34 +27,36 @@ memoryOk r =
     && (leb 4096 (r .length) && (leb (r .length) 1073741824
     && leb (r .start + r .length) (2 ^ r .width))))))
 
--- "64 to 1,024 in steps of 32"
+-- §3.14: the interrupt counts: 64, 96, 128 and so on up to 1,024
 unfoldable pub irqsOk : ℕ → Bool
 irqsOk n = leb 64 n && (leb n 1024 && eqb (n % 32) 0)
 
--- marks are 0 or 1; running only after INIT; ITS INIT only after the VGIC's; STATUSR has four bits; 256 interrupts unless the count
--- was set
+-- §1.9: marks are 0 or 1; running and ITS INIT are at most VGIC INIT's mark, so only after it; the interrupt count is one of §3.14 and 256
+-- if it was not set; the distributor's STATUSR is below 16
 unfoldable pub controlOk : Control → Bool
 controlOk c =
     leb (c .init) 1 && (leb (c .running) (c .init) && (leb (c .itsinit) (c .init)
     && (leb (c .irqsset) 1 && (irqsOk (c .irqs) && (ltb (c .status) 16
     && (eqb (c .irqsset) 1 || eqb (c .irqs) 256))))))
 
--- a base that is set is a multiple of 65,536 and its frame ends by 2^p; one that is not is 0
+-- §1.10: a base that is set is divisible by 65,536 and its frame ends at or below 2^p, the limit; one that is not set is stored as 0
 unfoldable pub frameOk : ℕ → ℕ → Frame → Bool
 frameOk limit size f =
     choose (isSet f)
     (eqb (f .base % 65536) 0 && endsBy limit (record { start = f .base; size = size }))
     (eqb (f .set) 0 && eqb (f .base) 0)
 
--- a region: the same, with a count of 12 bits that is not 0
+-- §1.10: a region likewise, with a count of 1 to 4,095
 unfoldable pub regionOk : ℕ → Region → Bool
 regionOk limit r =
     eqb (r .base % 65536) 0 && (leb 1 (r .count) && (ltb (r .count) 4096 && endsBy limit (regionArea r)))
 
+-- Notation: 2^p, the first address past the address space
 abbrev pub limitOf : Machine → ℕ
 limitOf m = 2 ^ m .memory .width
 
--- frames: each as above, no two overlap, single run or regions and never both, at most 32 regions
+-- §1.10: each frame and each region as above, the single run with the size of §3.6; at most 32 regions (§1.6); no region beside the single
+-- run; no two that stand overlap
 unfoldable pub framesOk : Machine → Bool
 framesOk m =
     frameOk (limitOf m) distributorSize (m .frames .distributor) && (frameOk (limitOf m) (runSize m) (m .frames .single)
@@ -64,7 +65,7 @@ framesOk m =
     && (choose (isSet (m .frames .single)) (eqb (length (m .regions)) 0) true
     && apart (standing m))))))
 
--- what INIT needs stands once it is done: a VCPU, the distributor, a place for each redistributor
+-- §1.11: after VGIC INIT there is a VCPU, the distributor's base is set, and every VCPU has a place
 unfoldable pub initOk : Machine → Bool
 initOk m =
     choose (initialised m)
@@ -72,39 +73,45 @@ initOk m =
     && (isSet (m .frames .single) || leb (length (m .vcpus)) (total (m .regions)))))
     true
 
--- no two VCPUs have one affinity
+-- Notation: a VCPU has an affinity
 abbrev pub hasAffinity : ℕ → Vcpu → Bool
 hasAffinity a v = eqb (v .affinity) a
 
+-- §1.12, §3.1: one of these VCPUs has the affinity
 unfoldable pub taken : List Vcpu → ℕ → Bool
 taken vs a = ltb (findIx (hasAffinity a) vs) (length vs)
 
+-- §1.12: no affinity occurs twice
 unfoldable pub distinct : List Vcpu → Bool
 distinct [] = true
 distinct (v ∷ vs) = not (taken vs (v .affinity)) && distinct vs
 
--- SGIs, bits 15:0 of a VCPU's bank, are edge with level 0; STATUSR has four bits
+-- §1.12, §1.9: the SGIs, [15:0] of a VCPU's bank, are edge (65,535 = 2^16 - 1) and their levels 0; its STATUSR is below 16
 unfoldable pub vcpuOk : Vcpu → Bool
 vcpuOk v =
     eqb (getField (v .bank .trigger) 0 16) 65535 && (eqb (getField (v .bank .level) 0 16) 0 && ltb (v .status) 16)
 
+-- §1.12: that of all VCPUs, of which there are at most 64 (§1.6)
 unfoldable pub vcpusOk : List Vcpu → Bool
 vcpusOk vs = leb (length vs) 64 && (all vcpuOk vs && distinct vs)
 
--- a table's place: start a multiple of 4,096, 1 to 128 pages, inside memory; one that is not placed is 0
+-- §5.4: the bytes of a table: pages of 4 KiB from its start on
 abbrev pub tableArea : Table → Area
 tableArea t = record { start = t .start; size = 4096 * t .pages }
 
+-- §1.4: the run of guest memory
 abbrev pub memoryArea : Memory → Area
 memoryArea r = record { start = r .start; size = r .length }
 
+-- §1.13: a form and a place that §5.4 takes: the start divisible by 4,096, 1 to 128 pages, inside memory; one that is not placed is stored as
+-- start 0 and 0 pages
 unfoldable pub tableOk : Memory → Table → Bool
 tableOk r t =
     choose (eqb (t .set) 1)
     (eqb (t .start % 4096) 0 && (leb 1 (t .pages) && (leb (t .pages) 128 && inside (memoryArea r) (tableArea t))))
     (eqb (t .set) 0 && (eqb (t .start) 0 && eqb (t .pages) 0))
 
--- the two are placed together, only after ITS INIT, and do not overlap
+-- §1.13: both or neither is placed, only after ITS INIT, and they do not overlap
 unfoldable pub tablesOk : Machine → Bool
 tablesOk m =
     tableOk (m .memory) (m .tables .devices) && (tableOk (m .memory) (m .tables .collections)
@@ -112,17 +119,18 @@ tablesOk m =
     && (leb (m .tables .devices .set) (m .control .itsinit)
     && not (overlaps (tableArea (m .tables .devices)) (tableArea (m .tables .collections))))))
 
--- ITS INIT needs the ITS base
+-- §1.13: ITS INIT is done only where the ITS base is set
 unfoldable pub itsOk : Machine → Bool
 itsOk m = leb (m .control .itsinit) (m .frames .its .set)
 
--- every rule; the shared banks are those below the interrupt count
+-- §1.9 to §1.13: all of them but the limits of the mapping's rows; and the shared banks are those that the interrupt count has (§4.2),
+-- which holds of all bytes, since they are read so
 unfoldable pub rules : Machine → Bool
 rules m =
     memoryOk (m .memory) && (controlOk (m .control) && (framesOk m && (initOk m && (vcpusOk (m .vcpus)
     && (eqb (length (m .shared)) (sharedCount (m .control .irqs)) && (itsOk m && tablesOk m))))))
 
--- what the code knows of a guest that passed the test
+-- Inner: what the code knows of a guest that passed the test
 pub record Kept (g : Guest) : Type 0 where
   pub held : Held g
   pub rules : rules (view g) ≡ true

@@ -1,4 +1,4 @@
--- The frames that stand, in the order distributor, single run, regions by index, ITS frame.
+-- The frames that stand, as areas: distributor first, then single run, regions and the ITS.
 use Prim.Native.Nat.{ℕ, _+_, _*_}
 use mathlib.Core.Path.{_≡_}
 use mathlib.Core.Bool.{Bool, true}
@@ -12,7 +12,7 @@ use Rattle.guest.specs.declared.Region.{Region}
 use Rattle.guest.specs.declared.Guest.{Guest}
 use Rattle.guest.specs.Machine.{Machine, Held, view, initialised, isSet}
 
--- "2 distributor (64 KiB)"; "4 (128 KiB)"; "Redistributors take 128 KiB each."
+-- §3.3: the sizes in bytes
 abbrev pub distributorSize : ℕ
 distributorSize = 65536
 
@@ -22,35 +22,38 @@ itsSize = 131072
 abbrev pub redistributorSize : ℕ
 redistributorSize = 131072
 
--- a frame's area, if its base is set
+-- Notation: a frame's area, if its base is set
 abbrev pub placed : Frame → ℕ → List Area
 placed f size = choose (isSet f) (record { start = f .base; size = size } ∷ []) []
 
--- "The single run counts as 128 KiB before INIT, whole (128 KiB for each VCPU) at and after it."
+-- §3.6: the single run's whole size, as INIT's own test has it
 abbrev pub wholeRun : Machine → ℕ
 wholeRun m = redistributorSize * length (m .vcpus)
 
+-- §3.6: the single run's size: one redistributor's until VGIC INIT, the whole size from then on
 abbrev pub runSize : Machine → ℕ
 runSize m = choose (initialised m) (wholeRun m) redistributorSize
 
+-- §3.7: a region's size is its count × 131,072
 abbrev pub regionArea : Region → Area
 regionArea r = record { start = r .base; size = redistributorSize * r .count }
 
+-- §3.4, §3.5, §3.8: the frames that stand, which another must not overlap: those with a base that is set, and the regions
 unfoldable pub standing : Machine → List Area
 standing m =
     placed (m .frames .distributor) distributorSize ++ placed (m .frames .single) (runSize m)
     ++ map regionArea (m .regions) ++ placed (m .frames .its) itsSize
 
--- all but the single run
+-- §3.11: all but the single run, with which INIT compares the run in its whole size
 unfoldable pub others : Machine → List Area
 others m = placed (m .frames .distributor) distributorSize ++ map regionArea (m .regions) ++ placed (m .frames .its) itsSize
 
--- the redistributors that regions have room for
+-- §1.11, §3.11: the sum of the regions' counts
 unfoldable pub total : List Region → ℕ
 total [] = 0
 total (r ∷ rs) = r .count + total rs
 
--- what the code asks of the regions: each count has 12 bits, so that no size is too large
+-- Inner: what the code asks of the regions: each count has 12 bits, so that no size is too large
 abbrev pub smallCount : Region → Bool
 smallCount r = ltb (r .count) 4096
 

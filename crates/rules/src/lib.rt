@@ -17,7 +17,7 @@ ghost use Rattle.guest.specs.Machine.{view, Held};
 ghost use Rattle.rules.specs.Standing.{placed, runSize, regionArea, smallCount, Small, standing, others, total};
 ghost use Rattle.rules.specs.Rules.{irqsOk, taken};
 
-// The bytes that the single run counts for: 128 KiB before INIT, 128 KiB for each VCPU after it.
+// The size of the single run (§3.6).
 pub fn run_size(g: Guest) -> u64
     requires { ⌜ Held g ⌝ }
     ensures { λ r. ⌜ r ≡ runSize (view g) ⌝ }
@@ -65,7 +65,7 @@ fn with_regions(t: Areas, r: Regions) -> Areas
     next
 }
 
-// The frames that stand: distributor, single run, regions by index, ITS frame.
+// The frames that stand: distributor first, then single run, regions and the ITS.
 pub fn standing(g: Guest) -> Areas
     requires { ⌜ Small g ⌝ }
     ensures { λ r. ⌜ (areas r ≡ standing (view g)) × (r .count ≤ 35) ⌝ }
@@ -140,7 +140,7 @@ pub fn taken(v: Vcpus, affinity: u64) -> bool
     taken_from(v, 0, affinity)
 }
 
-// Whether a number is an interrupt count: 64 to 1,024 in steps of 32.
+// Whether a number is an interrupt count (§3.14).
 pub fn irqs_ok(n: u64) -> bool
     ensures { λ r. ⌜ r ≡ irqsOk n ⌝ }
 {

@@ -1,5 +1,5 @@
--- The numbers of document 01, call by call, for its sections on the guest, the numbers handed back, VCPUs, frames and banks. Beside each
--- call stand its answer and what it leaves in the lent value.
+-- Parts 1 to 4 of docs/DEFINITION.md, call by call. Beside each call stand its answer and what it leaves in the lent value, written down
+-- from the paragraphs that the comments cite.
 use mathlib.Core.List.{_++_}
 use Rattle.step.specs.Run.{Runs, zeros, unmade}
 use Rattle.runs.specs.Opening.{wrongLength, noGuest, settingUp}
@@ -8,9 +8,11 @@ use Rattle.runs.specs.Frames.{frames}
 use Rattle.runs.specs.Banks.{banks}
 use Rattle.runs.specs.Limits.{limits}
 
+-- §10.9: each list of calls does on its state what is written beside it
 pub record GuestRuns : Type 0 where
-  -- the state one byte short and one byte long
+  -- §1.3: the state one byte short and one byte long
   pub lengths : Runs wrongLength (zeros 11399) × Runs wrongLength (zeros 11401)
+  -- all others begin with 11,400 bytes of 0, which are no guest
   pub fresh : Runs (noGuest ++ settingUp) unmade
   pub order : Runs order unmade
   pub frames : Runs frames unmade

@@ -1,4 +1,4 @@
--- The sample table, proved. Assumes nothing.
+-- The samples of part 12, proved. Assumes nothing.
 use Prim.Native.Nat.{ℕ, zero, suc, _+_, _-_, _*_, _/_, _^_, _<_}
 use native.Mathlib.Omega.{arith}
 use mathlib.Core.Path.{_≡_, refl}
@@ -33,13 +33,13 @@ same : (b : Bool) {x : ℕ} → choose b x x ≡ x
 same true = refl
 same false = refl
 
--- ---- P5
+-- ---- §12.5
 
 asked : (m : Machine) → m .regions ≡ regions → isSet (m .frames .single) ≡ false → initialised m ≡ true → 2 < length (m .vcpus) → redistBase 2 m ≡ record { errno = 0; number = 0x080C0000 }
 unfolding redistBase locate wordRegion getField
 asked m r s i v = rw (i, lt-ltb 2 (length (m .vcpus)) v, s, r)
 
--- ---- P8 and P9: a walk whose first entry has a bad next
+-- ---- §12.8 and §12.9: a walk whose first entry has a bad next
 
 module _ (T : Slots) (visit : ℕ → Mapped → Out) (k : Mapped) (i : ℕ) (inside : i < T .size) (below : Blank T 0 i) (valid : T .valid i ≡ true) (bad : following T i ≡ Bad) where
   run-bad : (n : ℕ) → i < n → run visit (path T n i) k ≡ fault 22
@@ -70,7 +70,7 @@ out t id k size below valid next =
     let inside : 5 < length t / 8 = rw size (omega arith) in
     (bad, walk-bad (eventSlots t) _ k 5 inside below valid bad)
 
--- ---- P10
+-- ---- §12.10
 
 zeros : (n : ℕ) → Zeros (replicate n 0)
 zeros zero = none
@@ -114,7 +114,7 @@ module _ (m : Machine) where
   nothing-at-all : (n : ℕ) → restored m (replicate n 0) ≡ found empty
   nothing-at-all n = nothing (replicate n 0) (area-zeros n (tableArea (m .tables .devices))) (area-zeros n (tableArea (m .tables .collections)))
 
--- ---- P11 and P12
+-- ---- §12.11 and §12.12
 
 uneven : (attribute value : ℕ) (m : Machine) → vintidOf attribute ≡ 16 → initialised m ≡ true → (group7Fault attribute 4 m ≡ 22) × (setGroup7 attribute 4 value m ≡ refuse m 22)
 unfolding group7Fault setGroup7
@@ -128,7 +128,7 @@ none-counted w m c =
     let e : regionFault w m ≡ 22 = rw (c, same (eqb (wordFlags w) 0)) (same (isSet (m .frames .single))) in
     (e, rw e)
 
--- the table
+-- all twelve
 pub proved : Samples
 unfolding getField putField wordRegion bytesOf isDevice deviceOf deviceWord isCollection collectionOf collectionWord isEvent eventOf eventWord locate nextOf chainWord scan firstFrom following path le leAt entryAt deviceSlots eventSlots run walk readEvents landing leaving
 proved = record {

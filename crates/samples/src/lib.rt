@@ -1,1 +1,1 @@
-// The sample table of document 01: definitions and laws, no code.
+// The samples of part 12: definitions and laws, no code.

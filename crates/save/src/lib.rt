@@ -1,4 +1,4 @@
-// Save: the mapping written into lent guest memory as its tables' entries. The rows are read where they lie in the state's bytes, one by
+// Save (§7.2 to §7.6): the mapping written into lent guest memory. The rows are read where they lie in the state's bytes, one by
 // one, so that no table of them is copied.
 ghost use mathlib.Core.Path.{_≡_};
 ghost use mathlib.Core.List.{_++_};
@@ -13,7 +13,7 @@ ghost use Rattle.save.specs.Saving.{blank, rowAfter, collectionEntry, ev
 ghost use Rattle.save.specs.Saving.{DeviceGood, CollectionGood, DevicesReady, CollectionsReady, EventsReady};
 ghost use Rattle.save.specs.Saving.{IttCursor, IttsReady, Saveable};
 
-// The largest distance that an entry has room for.
+// The caps of §7.2: the largest next that an entry has room for.
 const DEVICE_CAP: u64 = 16383;
 
 const EVENT_CAP: u64 = 65535;

@@ -1,4 +1,4 @@
--- Whether bytes describe a mapping hangs on the saved bytes alone, and of the machine on the memory's place, the tables' places and
+-- §8.1: whether bytes describe a mapping hangs on the saved bytes alone, and of the machine on the memory's place, the tables' places and
 -- the number of VCPUs.
 use Prim.Native.Nat.{ℕ, _+_, _<_}
 use mathlib.Core.Path.{_≡_, sym, _∙_}

@@ -1,4 +1,4 @@
--- What document 01 says of the text beyond its lines. Assumes nothing.
+-- What §11.1 and §11.2 say beyond the lines themselves. Assumes nothing.
 use Prim.Native.Nat.{ℕ, _≤_, _<_}
 use native.Mathlib.Omega.{arith}
 use mathlib.Core.Path.{_≡_, refl, sym, _∙_}
@@ -17,7 +17,7 @@ use Rattle.show.specs.Shown.{isImage, guestOf, refusal, shown}
 use Rattle.show.proofs.Ready.{ready, image-says}
 use Rattle.show.proofs.Whole.{shown-no-image}
 
--- an image above 65,536 bytes is refused, so that no byte after the 65,537th matters
+-- §11.1: an image above 65,536 bytes is refused, so that no byte after the 65,537th matters
 shown-long : (image : List ℕ) → 65536 < length image → shown image ≡ refusal 14
 unfolding isImage
 shown-long image h = sym (shown-no-image image (rw (le-leb 8192 (length image) (omega arith), lt-leb (length image) 65536 h)))
@@ -25,7 +25,7 @@ shown-long image h = sym (shown-no-image image (rw (le-leb 8192 (length image) (
 pub shown-cut : (image : List ℕ) → 65537 ≤ length image → shown (take 65537 image) ≡ shown image
 shown-cut image h = shown-long (take 65537 image) (omega (arith, length-take-le 65537 image h)) ∙ sym (shown-long image h)
 
--- "each rising"
+-- §11.2: rows rise
 module _ (image : List ℕ) (e : isImage (length image) ≡ true) (k : Mapped) (r : restored (guestOf (length image)) image ≡ found k) where
   pub rows-rise : (rising collectionKey (k .collections) ≡ true) × (rising deviceKey (k .devices) ≡ true) × (rising eventKey (k .events) ≡ true)
   unfolding mappingOk guestOf

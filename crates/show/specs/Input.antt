@@ -5,7 +5,7 @@ use Rattle.io.specs.Counts.{Counts}
 use Rattle.show.specs.declared.Input.{Input}
 use Rattle.show.specs.declared.Input.the-variants.{Bytes, Unread}
 
--- so many bytes at the start of the buffer
+-- Inner: the promise of the code that reads: so many bytes at the start of the buffer, which has as many
 abbrev pub Fills : Input → List ℕ → Type 0
 Fills (Bytes n) l = Counts n l
 Fills Unread l = Unit {0}

@@ -15,7 +15,7 @@ ghost use Rattle.lines.specs.Text.{Adds};
 ghost use Rattle.listing.specs.Listing.{listingRoom};
 ghost use Rattle.show.specs.Shown.{isImage, frameAt, pageAt, fourVcpus, guestOf, refusal, Shows};
 
-// The longest image.
+// §11.1: the longest image.
 pub const IMAGE: usize = 65536;
 
 const PAGE: usize = 4096;
@@ -69,7 +69,7 @@ fn four_vcpus() -> Vcpus
     }
 }
 
-// Frames stand where a restore does not look: INIT and ITS INIT ask for them.
+// §11.1: frames stand where a restore does not look: both INITs ask for them.
 fn guest_of(size: u64) -> Guest
     ensures { λ r. ⌜ (view r ≡ guestOf size) × Held r ⌝ }
 {

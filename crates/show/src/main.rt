@@ -1,5 +1,5 @@
 // Shows the ITS mapping in an image of guest memory, which is read from the file that the first argument names or else from standard
-// input. What is written for an image is `shown` of specs/Shown.antt. Where the image can't be read nothing is written to standard
+// input. What is written for an image is `shown` of specs/Shown.antt. §11.5: where the image can't be read nothing is written to standard
 // output; no Rattle program can set its exit status.
 mod image;
 

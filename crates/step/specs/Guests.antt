@@ -5,7 +5,7 @@ use Rattle.answers.specs.Answer.{done}
 use Rattle.step.specs.Step.{setup, vcpuAdd, vgicSet, itsSet, itsPlace}
 use Rattle.step.specs.Run.{Row, _⇒_, with, long}
 
--- a guest whose ITS is initialised, with two VCPUs
+-- §1.4, §3.1, §3.5, §3.11, §5.2: the calls that make a guest with two VCPUs and both INITs done
 abbrev pub its : ℕ → List Row
 its len =
     setup 40 0x40000000 len ⇒ done 0
@@ -18,6 +18,6 @@ its len =
     ∷ itsSet 4 0 ⇒ done 0
     ∷ []
 
--- with its tables placed, a page each
+-- §5.4: the same, and its tables placed, a page each
 abbrev pub placed : ℕ → List Row
 placed len = its len ++ itsPlace 0x40000000 1 0x40001000 1 ⇒ done 0 ∷ []

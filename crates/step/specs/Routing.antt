@@ -4,7 +4,7 @@ use Rattle.answers.specs.Answer.{refusal, done}
 use Rattle.step.specs.Step.{stateLen, vcpusStart, vcpusStop, setup, vcpuAdd, redistBase, vgicSet, itsSet, vgicGet, itsGet, irqPending, irqSetPending, irqClearPending, irqActivate, irqLine, irqTrigger, itsPlace, itsMapEvent, itsMapDevice, itsMove, itsMapCollection, itsDiscard, itsLookup, itsUnmapDevice, itsUnmapCollection, itsSave, itsRestore}
 use Rattle.step.specs.Run.{Row, Runs, _⇒_, with, writes, word, long, zeros, unmade}
 
--- set-up, three VCPUs, frames, both INITs; a get where a set would be -17
+-- §1.2, §1.4, §3.1, §3.5, §3.9, §3.11, §3.12, §5.2: set-up, three VCPUs, frames, both INITs; a get where a set would be -17
 abbrev pub made : List Row
 made =
     stateLen ⇒ done 11400
@@ -22,8 +22,8 @@ made =
     ∷ redistBase 2 ⇒ done 0x08050000
     ∷ []
 
--- start stops the register accesses, stop lets them go on; 20 of VCPU 2 is made edge, its line rises and falls, and the latch stays
--- until activation; set and clear of 3 of VCPU 1
+-- §3.2, §4.10: start stops the register accesses, stop lets them go on. §4.4, §4.5, §4.6, §4.7: 20 of VCPU 2 is made edge, its line rises
+-- and falls, and the latch stays until activation; set and clear of 3 of VCPU 1
 abbrev pub raised : List Row
 raised =
     vcpusStart ⇒ done 0
@@ -42,8 +42,9 @@ raised =
     ∷ irqPending 1 3 ⇒ done 0
     ∷ []
 
--- two pages of devices before one of collections: device 600 needs the second page, and its ITT starts where the collections end; the
--- event moves from PE 1 to PE 2, so that collection 7 can go and collection 9 could not
+-- §5.4, §5.6: two pages of devices before one of collections: device 600 needs the second page, and its ITT starts
+-- where the collections end. §5.7, §5.8, §5.9, §5.10, §5.11, §5.12, §5.13: the event moves from PE 1 to PE 2, so that
+-- collection 7 can go and collection 9 could not
 abbrev pub mapped : List Row
 mapped =
     itsPlace 0x40000000 2 0x40002000 1 ⇒ done 0
@@ -61,7 +62,8 @@ mapped =
     ∷ itsLookup 600 3 ⇒ refusal 2
     ∷ []
 
--- a new guest, with memory for two tables of one page: save writes a collection's entry; restore is refused where one names PE 1 of one
+-- §7.4, §9.4: a new guest, with memory for two tables of one page: save writes a collection's entry; restore is refused
+-- where one names PE 1 of one
 abbrev pub savedAndRestored : List Row
 savedAndRestored =
     setup 36 0 0x2000 ⇒ done 0
@@ -77,5 +79,6 @@ savedAndRestored =
     ∷ with itsRestore (zeros 0x1000 ++ long 0x8000000000010007 ++ zeros 0xFF8) (refusal 22)
     ∷ []
 
+-- §10.9: the whole run, from bytes that are no guest yet
 abbrev pub Routing : Type 0
 Routing = Runs (made ++ raised ++ mapped ++ savedAndRestored) unmade

@@ -1,4 +1,4 @@
--- Runs: calls one by one on bytes, each on the state that the one before left, with what document 01 makes each hand back.
+-- Runs: calls one by one on bytes, each on the state that the one before left, with what docs/DEFINITION.md makes each hand back.
 use Prim.Native.Nat.{ℕ, zero, suc}
 use mathlib.Core.Path.{_≡_}
 use mathlib.Core.List.{List, [], _∷_, _++_}
@@ -8,18 +8,18 @@ use Rattle.words.specs.Words.{bytesOf}
 use Rattle.layout.specs.Layout.{size}
 use Rattle.step.specs.Step.{Call, step}
 
--- what a call hands back, and what it leaves in what is lent to it
+-- Notation: what a call hands back, and what it leaves in what is lent to it
 pub record Seen : Type 0 where
   pub answer : ℤ
   pub left : List ℕ
 
--- a call, what is lent to it, and what is expected of it
+-- Notation: a call, what is lent to it, and what is expected of it
 pub record Row : Type 0 where
   pub call : Call
   pub lent : List ℕ
   pub seen : Seen
 
--- a call that lends nothing; one whose lent value stays; a get that is accepted, with the value that it leaves
+-- Notation: a call that lends nothing; one whose lent bytes stay; one that writes them, with what it leaves
 infix 70 _⇒_
 
 abbrev pub _⇒_ : Call → ℤ → Row
@@ -31,27 +31,28 @@ with c v n = record { call = c; lent = v; seen = record { answer = n; left = v }
 abbrev pub writes : Call → List ℕ → ℤ → List ℕ → Row
 writes c v n w = record { call = c; lent = v; seen = record { answer = n; left = w } }
 
--- what is expected of the calls, and what they do
+-- Notation: what is expected of the calls, one after the other
 abbrev pub expected : List Row → List Seen
 expected [] = []
 expected (r ∷ rs) = r .seen ∷ expected rs
 
+-- §10.9: what `step` makes of the calls, each on the state that the one before left
 abbrev pub shown : List Row → List ℕ → List Seen
 shown [] s = []
 shown (r ∷ rs) s =
     let a = step (r .call) s (r .lent) in
     record { answer = a .answer; left = a .lent } ∷ shown rs (a .state)
 
--- the state after the calls
+-- Notation: the state after the calls
 abbrev pub after : List Row → List ℕ → List ℕ
 after [] s = s
 after (r ∷ rs) s = after rs (step (r .call) s (r .lent) .state)
 
--- every call of the run does what its row expects
+-- §10.9: every call of the run does what its row expects, by its answer and its lent bytes
 abbrev pub Runs : List Row → List ℕ → Type 0
 Runs rs s = shown rs s ≡ expected rs
 
--- values of 4 and of 8 bytes, zero bytes, and a state of which only the length is right
+-- Notation: values of 4 and of 8 bytes, zero bytes, and a state of which only the length is right
 abbrev pub word : ℕ → List ℕ
 word v = bytesOf 4 v
 
@@ -64,7 +65,7 @@ zeros n = replicate n 0
 abbrev pub unmade : List ℕ
 unmade = zeros size
 
--- the rows of 0 to n - 1
+-- Notation: the rows of 0 to n - 1
 abbrev pub many : ℕ → (ℕ → Row) → List Row
 many zero f = []
 many (suc n) f = many n f ++ (f n ∷ [])

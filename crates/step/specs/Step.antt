@@ -1,4 +1,4 @@
--- One total definition of every public call: each exported promise says that the call leaves what it says.
+-- §10.1: one total definition of every public call; each exported promise says that the call leaves what is said here.
 use Prim.Native.Nat.{ℕ}
 use mathlib.Core.Path.{_≡_}
 use mathlib.Core.List.{List}
@@ -10,7 +10,7 @@ use Rattle.calls.specs.declared.Question.the-variants.{VgicGet, ItsGet, RedistB
 use Rattle.calls.specs.declared.Command.the-variants.{Place, MapDevice, UnmapDevice, MapCollection, UnmapCollection, MapEvent, Discard, Move}
 use Rattle.calls.specs.Call.{Reply, changes, asks, setUp, valueOf, given, answered, commands, itsSets, looks, saves, restores}
 
--- one for each row of the C interface, with its numbers
+-- §10.1: a call: one for each function of the header, with its numbers in their order
 pub data Call : Type 0 where
   stateLen vcpusStart vcpusStop : Call
   setup : ℕ → ℕ → ℕ → Call
@@ -24,13 +24,13 @@ pub data Call : Type 0 where
   itsUnmapDevice itsUnmapCollection : ℕ → Call
   itsSave itsRestore : Call
 
--- what a call hands back, and what it leaves in the state and in the lent value or memory
+-- Notation: what a call hands back, and what it leaves in the state and in the lent value or memory
 pub record After : Type 0 where
   pub answer : ℤ
   pub state : List ℕ
   pub lent : List ℕ
 
--- a call that may write the state, one that may write the lent value, one that writes nothing
+-- §10.1: a call that may write the state, one that may write the lent bytes, one that writes nothing; what is only read stays
 abbrev pub writes : Reply → List ℕ → After
 writes r v = record { answer = r .answer; state = r .lent; lent = v }
 
@@ -40,7 +40,8 @@ gives s r = record { answer = r .answer; state = s; lent = r .lent }
 abbrev pub tells : ℤ → List ℕ → List ℕ → After
 tells a s v = record { answer = a; state = s; lent = v }
 
--- the call on a state and a lent value, which is empty where none is lent; save and restore lend the memory
+-- §10.1: the call on a state and what is lent to it, which is empty where nothing is; save and restore lend the memory. §1.2: the length is
+-- answered of every state. §2.3: four calls answer the number that they are asked for, all others 0.
 abbrev pub step : Call → List ℕ → List ℕ → After
 step stateLen s v = tells (pos size) s v
 step (setup width start len) s v = writes (setUp width start len s) v
@@ -70,7 +71,7 @@ step (itsLookup device event) s v = tells (answered (looks device event s)) s v
 step itsSave s v = gives s (saves s v)
 step itsRestore s v = writes (restores s v) v
 
--- the promise of an export: its answer, and what it leaves in the state and in the lent bytes, written or only read
+-- §10.1: the promise of an export: its answer, and what it leaves in the state and in the lent bytes, written or only read
 pub record Leaves (a : After) (answer : ℤ) (s v : List ℕ) : Type 0 where
   pub number : answer ≡ a .answer
   pub state : s ≡ a .state

@@ -1,4 +1,4 @@
--- Tables in guest memory: entries of 8 bytes, little endian. Byte i of the lent memory is address start + i.
+-- Tables in guest memory (§6.1), read from the lent bytes.
 use Prim.Native.Nat.{ℕ, _-_, _*_, _/_}
 use mathlib.Core.List.{List}
 use lib.ListN.{length, take, drop}
@@ -14,14 +14,15 @@ use Rattle.mapping.specs.declared.Collection.{Collection}
 use Rattle.mapping.specs.Mapped.{ittArea}
 use Rattle.chains.specs.Slots.{Slots}
 
--- the word of entry i of a table
+-- §6.1: the word of entry i of a table: 8 bytes from 8 × i on, little endian
 unfoldable pub entryAt : List ℕ → ℕ → ℕ
 entryAt t i = leAt t (i * 8) 8
 
--- the bytes of an area of memory
+-- §6.1: the bytes of an area: byte i of lent memory is address start + i, with the start of set-up
 unfoldable pub areaBytes : Machine → List ℕ → Area → List ℕ
 areaBytes m mem a = take (a .size) (drop (a .start - m .memory .start) mem)
 
+-- §5.5: the bytes of each table
 abbrev pub deviceTable : Machine → List ℕ → List ℕ
 deviceTable m mem = areaBytes m mem (tableArea (m .tables .devices))
 
@@ -31,18 +32,18 @@ collectionTable m mem = areaBytes m mem (tableArea (m .tables .collections))
 abbrev pub ittTable : Machine → List ℕ → Device → List ℕ
 ittTable m mem d = areaBytes m mem (ittArea d)
 
--- the collection that entry i of a collection table holds
+-- §6.3: the collection that entry i of a collection table holds
 abbrev pub collectionAt : List ℕ → ℕ → Collection
 collectionAt t i = record { icid = collectionOf (entryAt t i) .icid; pe = collectionOf (entryAt t i) .pe }
 
--- "at most 16,383 for devices and 65,535 for events"
+-- §7.2: the caps
 abbrev pub deviceCap : ℕ
 deviceCap = 16383
 
 abbrev pub eventCap : ℕ
 eventCap = 65535
 
--- a device table and an ITT as chained entries
+-- §6.2, §6.4: a device table and an ITT as chained entries, each with as many entries as its bytes make
 unfoldable pub deviceSlots : List ℕ → Slots
 deviceSlots t = record {
   size = length t / 8;

@@ -1,4 +1,4 @@
--- Restore: "Faults are met in this order", the first gives the number.
+-- Restore (part 9): what it reads, and the faults in the order in which they are met. An errno e stands for the answer -e.
 use Prim.Native.Nat.{ℕ, zero, suc, _+_, _/_}
 use mathlib.Core.Bool.{_&&_}
 use mathlib.Core.List.{List, [], _∷_, _++_}
@@ -18,29 +18,30 @@ use Rattle.mapping.specs.Commands.{tableAreas, hasCollection, withCollections, 
 use Rattle.chains.specs.Slots.{Slots, Path, final, broken, onto, path, firstFrom}
 use Rattle.tables.specs.Bytes.{entryAt, collectionAt, deviceTable, collectionTable, ittTable, deviceSlots, eventSlots}
 
--- a fault's number, or the mapping so far
+-- Notation: a fault's number, or the mapping that was read so far
 pub data Out : Type 0 where
   fault : ℕ → Out
   found : Mapped → Out
 
+-- §9.2: the first fault is the answer
 abbrev pub andThen : Out → (Mapped → Out) → Out
 andThen (fault e) f = fault e
 andThen (found k) f = f k
 
--- the entries of a path are visited in order; a next that is a fault is met before the entry's other faults. For events document 01 lists
--- the LPI first: the numbers of both are -22, so that no table tells the two orders apart.
+-- §9.3, §9.5: the entries of a path are visited in order; a next that is a fault is met before the entry's other faults. For events §9.7
+-- has the LPI first: both are -22, so that no table tells the two orders apart.
 unfoldable pub run : (ℕ → Mapped → Out) → Path → Mapped → Out
 run visit (broken i) k = fault 22
 run visit (final i) k = visit i k
 run visit (onto i p) k = andThen (visit i k) (run visit p)
 
--- a whole table, from its first valid entry
+-- §9.6: a whole table, from its first valid entry; one without a valid entry has no rows
 unfoldable pub walk : Slots → (ℕ → Mapped → Out) → Mapped → Out
 walk T visit k =
     let p = path T (T .size) (firstFrom T 0) in
     choose (ltb (firstFrom T 0) (T .size)) (run visit p k) (found k)
 
--- "collection entries rising (pe, repeat: -22; 17th -12)"; rows rise by ICID
+-- §9.4: the faults of the collection in entry i, in order; k has those of the entries before it. Its row goes to its place by ICID (§5.1)
 unfoldable pub visitCollection : Machine → List ℕ → ℕ → Mapped → Out
 visitCollection m t i k =
     let c = collectionAt t i in
@@ -50,17 +51,18 @@ visitCollection m t i k =
     (found (withCollections (insertedAt (placeOf collectionKey (c .icid) (k .collections)) c (k .collections)) k))))
     (fault 22)
 
--- up to the first with V clear; left entries from i on
+-- §9.3, §8.2: `left` entries from i on, up to the first blank one; what stands behind it is not read
 unfoldable pub readCollections : Machine → List ℕ → ℕ → ℕ → Mapped → Out
 readCollections m t zero i k = found k
 readCollections m t (suc left) i k =
     let rest = readCollections m t left (suc i) in
     choose (isCollection (entryAt t i)) (andThen (visitCollection m t i k) rest) (found k)
 
--- "then its events rising: LPI -22, next -22 (cap 65,535), ICID not in the collections -22, 1,025th -12"
+-- §6.4: the event that entry i of the ITT of device `id` holds
 abbrev pub eventAt : List ℕ → ℕ → ℕ → Event
 eventAt t id i = record { device = id; event = i; lpi = eventOf (entryAt t i) .lpi; icid = eventOf (entryAt t i) .icid }
 
+-- §9.7: its faults but for next, which `run` has; the collections are all read by then
 unfoldable pub visitEvent : List ℕ → ℕ → ℕ → Mapped → Out
 visitEvent t id i k =
     let e = eventAt t id i in
@@ -71,13 +73,16 @@ visitEvent t id i k =
     (fault 22))
     (fault 22)
 
+-- §9.3: all events of an ITT, rising
 unfoldable pub readEvents : List ℕ → ℕ → Mapped → Out
 readEvents t id k = walk (eventSlots t) (visitEvent t id) k
 
--- "then devices rising: next -22 ..; size -22; 33rd -12; ITT outside memory -14; overlap -22; then its events"
+-- §6.2: the device that entry i of the device table holds
 abbrev pub deviceAt : List ℕ → ℕ → Device
 deviceAt t i = record { id = i; itt = deviceOf (entryAt t i) .itt; bits = deviceOf (entryAt t i) .bits }
 
+-- §9.5: its faults but for next, which `run` has; then, behind the device, its events (§9.3). k has only the devices met before. The
+-- entry leaves no fewer bits than 1 and no address that 256 does not divide, so that these need no test
 unfoldable pub visitDevice : Machine → List ℕ → List ℕ → ℕ → Mapped → Out
 visitDevice m mem t i k =
     let d = deviceAt t i in
@@ -89,10 +94,11 @@ visitDevice m mem t i k =
     (fault 14)))
     (fault 22)
 
+-- §9.3: all devices of the device table, rising, each with its events
 unfoldable pub readDevices : Machine → List ℕ → Mapped → Out
 readDevices m mem k = walk (deviceSlots (deviceTable m mem)) (visitDevice m mem (deviceTable m mem)) k
 
--- the mapping that a restore reads, or its fault
+-- §9.2, §9.3: the mapping that a restore reads, or its first fault; collections before devices, and nothing of the mapping before
 unfoldable pub restored : Machine → List ℕ → Out
 restored m mem =
     andThen (readCollections m (collectionTable m mem) (length (collectionTable m mem) / 8) 0 empty) (readDevices m mem)

@@ -1,46 +1,47 @@
-//! Section "Banks of 32 interrupts".
+//! Part 4: banks, interrupt calls and registers.
 
 use super::case::{Case, VGIC};
 
 pub const CASES: &[(&str, fn(&mut Case))] = &[
-    ("fresh banks are all 0", fresh),
-    ("a level interrupt is pending by latch or level", level_pending),
-    ("clear and activation do not lower a level that is held", level_held),
-    ("an edge interrupt is pending by its latch alone", edge_pending),
-    ("a rise of an edge interrupt raises its latch", edge_rise),
-    ("a level that stays 1 is no rise", no_second_rise),
-    ("guest set, clear and activation change the named latch alone", named_latch),
-    ("activation lowers the latch as clear does", activation),
-    ("a trigger write stores the bank's whole word and nothing else", trigger_word),
-    ("a trigger write changes no latch and no level", trigger_alone),
-    ("fresh interrupts from 16 on are level", fresh_level),
-    ("SGIs ignore line changes", sgi_line),
-    ("SGIs take guest set, clear and activation", sgi_latch),
-    ("a trigger write by an SGI stores the other bits of the bank", sgi_trigger),
-    ("a bad VCPU is -22 for every INTID", bad_vcpu),
-    ("an INTID above 1,023 is -22", bad_intid),
-    ("a line level above 1 is -22, for SGIs and absent INTIDs too", bad_level),
-    ("which VCPU is named matters below INTID 32 alone", vcpu_matters),
-    ("latch words are written whole", latch_words),
-    ("0x200 and 0x280+4n read 0 and ignore writes", zero_words),
-    ("every offset of group 1", distributor_offsets),
-    ("group 1 ignores attribute bits 63:32", distributor_high_bits),
-    ("every offset of group 5", redistributor_offsets),
-    ("group 5 names the VCPU by its affinity", redistributor_affinity),
-    ("a redistributor's latch word holds SGI bits too", redistributor_latch),
-    ("STATUSR keeps the low 4 bits, one for each frame", status),
-    ("running is -16 in groups 1 and 5, get and set", running),
-    ("group 7 stores the level word without edge detection", level_words),
-    ("a rise is from the stored level, group 7's too", rise_from_stored),
-    ("group 7 leaves SGI levels 0", level_sgis),
-    ("group 7: bad info or vINTID (P11) is -22", level_faults),
-    ("group 7 looks up the affinity for vINTID 0 only", level_affinity),
-    ("group 7 and the interrupt calls work while running", level_running),
-    ("banks at or above the count read 0 and ignore writes", absent_banks),
-    ("the default count ends at INTID 255", default_count),
-    ("with 1,024 interrupts the last bank has all 32 bits", last_bank),
-    ("one VCPU's bank is not another's", isolation),
-    ("the latch word is the latch, not pending", latch_is_not_pending),
+    ("§4.3 fresh banks are all 0", fresh),
+    ("§4.4 a level interrupt is pending by latch or level", level_pending),
+    ("§4.4, §4.5 clear and activate do not lower a level that is held", level_held),
+    ("§4.4 an edge interrupt is pending by its latch alone", edge_pending),
+    ("§4.6 a rise of an edge interrupt sets its latch", edge_rise),
+    ("§4.6 a level that stays 1 is no rise", no_second_rise),
+    ("§4.5 set, clear and activate change the named latch alone", named_latch),
+    ("§4.5 activate clears the latch as clear does", activation),
+    ("§4.2, §2.11 which bit of which bank an INTID is", bank_of),
+    ("§4.1, §4.7 a trigger call stores the word of its bank alone", trigger_word),
+    ("§4.7 a trigger call changes no latch and no level", trigger_alone),
+    ("§4.3 fresh interrupts from 16 on are level", fresh_level),
+    ("§4.6, §4.3 SGIs ignore their line", sgi_line),
+    ("§4.5 SGIs take set, clear and activate", sgi_latch),
+    ("§4.7, §4.3 a trigger call by an SGI stores the other bits of the bank", sgi_trigger),
+    ("§4.8 a bad VCPU is -22 for every INTID", bad_vcpu),
+    ("§4.8 an INTID above 1,023 is -22", bad_intid),
+    ("§4.8 a line's level above 1 is -22, of SGIs and past the count too", bad_level),
+    ("§4.8, §4.2 which VCPU is named matters below INTID 32 alone", vcpu_matters),
+    ("§4.11, §4.13 latch words are stored whole", latch_words),
+    ("§4.11, §4.12 words that read 0 and ignore writes", zero_words),
+    ("§4.11, §1.1 every offset of group 1", distributor_offsets),
+    ("§4.11, §2.6 group 1 drops attribute bits 63:32", distributor_high_bits),
+    ("§4.12, §1.1 every offset of group 5", redistributor_offsets),
+    ("§4.12 group 5 names the VCPU by its affinity", redistributor_affinity),
+    ("§4.12, §4.13 the latch word of a VCPU has the bits of SGIs too", redistributor_latch),
+    ("§4.14 each STATUSR keeps four bits", status),
+    ("§4.10 running is -16 in groups 1 and 5, get and set", running),
+    ("§4.15 group 7 stores the level word and looks for no rise", level_words),
+    ("§4.6, §4.15 a rise is from the stored level, group 7's too", rise_from_stored),
+    ("§4.15, §4.3 group 7 leaves the levels of SGIs 0", level_sgis),
+    ("§4.15, §12.11 group 7: bad info or vINTID is -22", level_faults),
+    ("§4.15 group 7 reads the affinity for vINTID 0 alone", level_affinity),
+    ("§4.15, §2.5 group 7 and the interrupt calls work while running", level_running),
+    ("§4.9 past the count all reads 0 and ignores writes", absent_banks),
+    ("§1.5, §4.9 the count of a fresh guest ends at INTID 255", default_count),
+    ("§4.9 with a count of 1,024 the last bank is whole", last_bank),
+    ("§4.16 the bank of one VCPU is not another's", isolation),
+    ("§4.11, §4.12 the latch word is the latch, not pending", latch_is_not_pending),
 ];
 
 const ONES: u32 = u32::MAX;
@@ -167,6 +168,24 @@ fn activation(c: &mut Case) {
         c.pending(0, intid, 1);
         c.activate(0, intid, 0);
         c.pending(0, intid, 0);
+    }
+}
+
+fn bank_of(c: &mut Case) {
+    c.put(3, 0, 1024, 0);
+    c.ready(2);
+    for intid in [32, 33, 63, 64, 95, 96, 511, 512, 991, 992, 1023] {
+        let word = 0x200 + 4 * (intid / 32);
+        c.raise(1, intid, 0);
+        c.word(1, word, 1 << (intid % 32));
+        c.clear(0, intid, 0);
+        c.word(1, word, 0);
+    }
+    for intid in [0, 15, 16, 31] {
+        c.raise(1, intid, 0);
+        c.word(5, (1 << 32) + 0x10200, 1 << intid);
+        c.word(5, 0x10200, 0);
+        c.clear(1, intid, 0);
     }
 }
 
@@ -447,7 +466,7 @@ fn status(c: &mut Case) {
     c.word(5, 0x10, 5);
     c.word(5, (1 << 32) + 0x10, 8);
     c.word(1, 0x10, 0xf);
-    // As written: a clear bit clears, a set bit sets.
+    // A clear bit clears, a set bit sets.
     c.put(1, 0x10, 2, 0);
     c.word(1, 0x10, 2);
     c.put(1, 0x10, 0x10, 0);

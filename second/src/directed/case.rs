@@ -1,4 +1,4 @@
-//! What a directed case can do: make a call and say which answer the text gives.
+//! What a directed case can do: make a call and say which answer docs/DEFINITION.md gives.
 
 use crate::call::{Call, Device};
 use crate::sides::Side;
@@ -24,7 +24,7 @@ impl<'a> Case<'a> {
         let answer = self.side.call(&call, &mut lent, &mut complaints);
         self.step += 1;
         if answer != want {
-            complaints.push(format!("answered {answer}, the text says {want}"));
+            complaints.push(format!("answered {answer}, expected {want}"));
         }
         for complaint in complaints {
             self.notes.push(format!("step {}, {call:x?}: {complaint}", self.step));
@@ -66,7 +66,7 @@ impl<'a> Case<'a> {
         let held = self.lent(Call::Get { device, group, attribute }, preset, want);
         if held != after {
             self.notes.push(format!(
-                "step {}, get {device:?} {group:x} {attribute:x}: lent bytes {held:x?}, the text says {after:x?}",
+                "step {}, get {device:?} {group:x} {attribute:x}: lent bytes {held:x?}, expected {after:x?}",
                 self.step
             ));
         }

@@ -1,51 +1,52 @@
-//! Section "VCPUs and frames".
+//! Part 3: VCPUs and frames.
 
 use super::case::{Case, ITS, VGIC};
 
 pub const CASES: &[(&str, fn(&mut Case))] = &[
-    ("a VCPU after INIT is -16", add_after_init),
-    ("an affinity that is taken is -22, with 64 VCPUs too", taken_affinity),
-    ("affinities are 32 bits wide", wide_affinities),
-    ("start and stop: -6 before INIT, then 0 however often", start_and_stop),
-    ("a base that is no multiple of 65,536 is -22", misaligned),
-    ("a frame may end at 2^p, not above", top_of_space),
-    ("sums do not wrap", no_wrap),
-    ("a base that is set already is -17, before its other faults", set_twice),
-    ("attribute 3 while regions stand is -22", single_after_regions),
-    ("the distributor is 64 KiB, a redistributor and the ITS 128 KiB", sizes),
-    ("an overlap is -22, a neighbour is no overlap", overlaps),
-    ("-7 comes before the overlap", top_before_overlap),
-    ("before INIT the single run counts as 128 KiB", single_before_init),
-    ("at INIT the single run is whole: overlap -6", whole_overlap_at_init),
-    ("at INIT the single run is whole: end above 2^p -6", whole_top_at_init),
-    ("after INIT the single run is whole", whole_after_init),
-    ("the region word's fields (P1)", region_fields),
-    ("a region while the single run stands is -22", region_after_single),
-    ("region flags not 0 are -22", region_flags),
-    ("region count 0 is -22 (P12)", region_count_zero),
-    ("a region index that is not the number standing is -22", region_index),
-    ("with 32 regions index 32 is -12, any other -22", region_full),
-    ("the 33rd region's -12 comes before -7 and overlap", region_full_first),
-    ("a region may end at 2^p, not above", region_top),
-    ("a region's overlap is -22", region_overlap),
-    ("a refused region is not there", region_refused),
-    ("regions are allowed after INIT, single run excepted", region_after_init),
-    ("get 5 reads the index bits alone", get_region),
-    ("get 5 while the single run stands is -22", get_region_single),
-    ("get 3 while regions stand is -22; an unset base is -2", get_bases),
-    ("INIT with no VCPU is -19, before its other faults", init_no_vcpu),
-    ("INIT without a distributor or redistributor place is -6", init_missing),
-    ("INIT with region counts below the VCPUs is -6", init_counts),
-    ("a repeated INIT is 0, running too", init_again),
-    ("a refused INIT can be made good", init_made_good),
-    ("frames of VCPUs in the single run", redist_single),
-    ("frames of VCPUs in regions (P5)", redist_regions),
-    ("a VCPU's frame is where the running sum first exceeds it", redist_sums),
-    ("asking for a frame: -22 for a number not below the VCPUs", redist_bad),
-    ("the number of interrupts: 64 to 1,024 in steps of 32", count_values),
-    ("the number of interrupts is set once, before INIT", count_once),
-    ("group 0 and group 3 do not look at running", running_is_no_fault),
-    ("frames may lie over guest memory", over_memory),
+    ("§3.1 a VCPU after INIT is -16", add_after_init),
+    ("§3.1 an affinity that is taken is -22, with 64 VCPUs too", taken_affinity),
+    ("§3.1, §4.12 affinities are 32 bits wide", wide_affinities),
+    ("§3.2 start and stop: -6 before INIT, then 0 however often", start_and_stop),
+    ("§3.5 a base that is not divisible by 65,536 is -22", misaligned),
+    ("§3.5, §2.10 a frame may end at 2^p, not above", top_of_space),
+    ("§2.10, §3.5, §3.8 sums do not wrap", no_wrap),
+    ("§3.5 a base that is set already is -17, before its other faults", set_twice),
+    ("§3.5, §3.9 attribute 3 while a region stands is -22", single_after_regions),
+    ("§3.3 the distributor has 64 KiB, a redistributor and the ITS 128 KiB", sizes),
+    ("§3.4, §3.5 an overlap is -22, a neighbour is no overlap", overlaps),
+    ("§3.5, §3.8 -7 comes before the overlap", top_before_overlap),
+    ("§3.6 before INIT the single run is one redistributor", single_before_init),
+    ("§3.6, §3.11 at INIT the single run is whole: overlap -6", whole_overlap_at_init),
+    ("§3.6, §3.11 at INIT the single run is whole: end above 2^p -6", whole_top_at_init),
+    ("§3.6 after INIT the single run is whole", whole_after_init),
+    ("§3.7, §2.11, §12.1 the fields of a region's word", region_fields),
+    ("§3.8, §3.10 a region while the single run stands is -22", region_after_single),
+    ("§3.8 a flag of a region is -22", region_flags),
+    ("§3.8, §12.12 a region with count 0 is -22", region_count_zero),
+    ("§3.8 an index that is not the number of regions is -22", region_index),
+    ("§3.8 with 32 regions index 32 is -12, any other -22", region_full),
+    ("§3.8 -12 comes before -7 and the overlap", region_full_first),
+    ("§3.8, §2.10 a region may end at 2^p, not above", region_top),
+    ("§3.8, §3.4 the overlap of a region is -22", region_overlap),
+    ("§2.4, §3.8 a refused region is not there", region_refused),
+    ("§3.8 regions may be added after INIT, beside a single run never", region_after_init),
+    ("§3.10 get 5 looks at the index alone", get_region),
+    ("§3.10 get 5 while the single run stands is -22", get_region_single),
+    ("§3.9 get 3 while a region stands is -22; a base that is not set is -2", get_bases),
+    ("§3.11, §2.5 INIT without a VCPU is -19, before its -6", init_no_vcpu),
+    ("§3.11 INIT without a distributor or a redistributor place is -6", init_missing),
+    ("§3.11 INIT with fewer places in regions than VCPUs is -6", init_counts),
+    ("§3.11 a repeated INIT is 0, while running too", init_again),
+    ("§3.11, §2.4 a refused INIT can be made good", init_made_good),
+    ("§3.12, §3.13 frames of VCPUs in the single run", redist_single),
+    ("§3.12, §3.13, §12.5 frames of VCPUs in regions", redist_regions),
+    ("§3.12 the region of a VCPU is the first whose sum is above its number", redist_sums),
+    ("§3.13 a number that no VCPU has is -22", redist_bad),
+    ("§3.14 the interrupt count is 64, 96 and so on up to 1,024", count_values),
+    ("§3.14 the interrupt count is set once, before INIT", count_once),
+    ("§3.15 the interrupt count is read at any time", count_read),
+    ("§2.5, §3.15 groups 0 and 3 do not look at running", running_is_no_fault),
+    ("§3.4 frames may lie over guest memory", over_memory),
 ];
 
 const K64: u64 = 0x1_0000;
@@ -579,6 +580,19 @@ fn count_once(c: &mut Case) {
     c.put(3, 0, 64, -16);
     c.put(3, 0, 65, -22);
     c.word(3, 0, 256);
+}
+
+fn count_read(c: &mut Case) {
+    c.word(3, 0, 256);
+    c.put(3, 0, 96, 0);
+    c.word(3, 0, 96);
+    c.ready(1);
+    c.word(3, 0, 96);
+    c.start(0);
+    c.word(3, 0, 96);
+    c.no_get(VGIC, 3, 0, 8, -14);
+    c.stop(0);
+    c.word(3, 0, 96);
 }
 
 fn running_is_no_fault(c: &mut Case) {

@@ -1,18 +1,18 @@
-//! Section "What the box holds".
+//! Part 1, but for the state's bytes: those are in `sound`.
 
 use super::case::{Case, ITS, VGIC};
 
 pub const CASES: &[(&str, fn(&mut Case))] = &[
-    ("p is 36 to 52", widths),
-    ("start and length are multiples of 4,096", multiples),
-    ("length is 4,096 to 2^30", lengths),
-    ("memory ends at most at 2^p", ends),
-    ("a fresh guest has no VCPU, no frame and 256 interrupts", fresh),
-    ("a refused set-up leaves the guest that stands", refused_set_up),
-    ("an accepted set-up makes the guest fresh again", second_set_up),
-    ("64 VCPUs are allowed, a 65th is -12", vcpu_limit),
-    ("32 regions are allowed, a 33rd is -12", region_limit),
-    ("p decides where frames may end", width_is_kept),
+    ("§1.4 p is 36 to 52", widths),
+    ("§1.4 start and length are divisible by 4,096", multiples),
+    ("§1.4 length is 4,096 to 2^30", lengths),
+    ("§1.4, §2.10 memory may end at 2^p, not above", ends),
+    ("§1.5 a fresh guest has no VCPU, no frame and 256 interrupts", fresh),
+    ("§1.4, §2.4 a refused set-up leaves the guest that stands", refused_set_up),
+    ("§1.5 an accepted set-up makes the guest fresh again", second_set_up),
+    ("§1.6, §3.1 64 VCPUs are taken, a 65th is -12", vcpu_limit),
+    ("§1.6, §3.8 32 regions are taken, a 33rd is -12", region_limit),
+    ("§1.4, §3.5 p decides where frames may end", width_is_kept),
 ];
 
 fn widths(c: &mut Case) {
@@ -51,7 +51,7 @@ fn ends(c: &mut Case) {
     c.setup(36, 0x10_0000_0000, 0x1000, -22);
     c.setup(52, 0xf_ffff_c000_0000, 0x4000_0000, 0);
     c.setup(52, 0xf_ffff_c000_1000, 0x4000_0000, -22);
-    // Sums are compared as numbers: this one would come out as 0 in 64 bits.
+    // §2.10: in 64 bits this sum would come out as 0.
     c.setup(52, 0xffff_ffff_ffff_f000, 0x1000, -22);
     c.setup(52, 0xffff_ffff_c000_0000, 0x4000_0000, -22);
 }

@@ -1,32 +1,32 @@
-//! Section "Mapping commands".
+//! Part 5: ITS INIT, placing, mapping commands, lookup and RESET.
 
 use super::case::{Case, ITS};
 use crate::call::Call;
 
 pub const CASES: &[(&str, fn(&mut Case))] = &[
-    ("ITS INIT: -6 unless the VGIC is initialised and the base set; repeated 0", init),
-    ("every command is -6 before ITS INIT", before_init),
-    ("all commands but placing and RESET are -6 until placed", before_placing),
-    ("placing: start and pages", place_form),
-    ("placing: outside memory -14, overlap -22, in this order over both", place_order),
-    ("placing again while empty replaces both; else -16", place_again),
-    ("Device: id not below the table's entries -22", device_id),
-    ("Device: bits not 1 to 16 -22, ITT not a multiple of 256 -22", device_form),
-    ("Device: mapped -17, 33rd -12", device_limit),
-    ("Device: outside memory -14, overlap -22", device_place),
-    ("Device: faults in the order listed", device_order),
-    ("Device removal: not mapped -2; its events go too", device_removal),
-    ("Collection: icid and pe -22, 17th -12, a new pe", collection),
-    ("Collection removal: not there -2, named by an event -22", collection_removal),
-    ("Event: faults in the order listed", event_order),
-    ("Event: limits of event, LPI and ICID", event_limits),
-    ("Event: mapped -17, 1,025th -12", event_count),
-    ("two events may share an LPI", shared_lpi),
-    ("discard, move and lookup: -2 where anything named is missing", missing),
-    ("lookup is lpi + 65,536 x pe", lookup),
-    ("move gives the event another collection", moves),
-    ("RESET: -6, running -16, then empty and not placed", reset),
-    ("placing and commands work while running", running),
+    ("§5.2 ITS INIT: -6 before VGIC INIT or without a base; repeated 0", init),
+    ("§5.3 every command is -6 before ITS INIT", before_init),
+    ("§5.3 all commands but placing and RESET are -6 until placed", before_placing),
+    ("§5.4 placing: start and pages", place_form),
+    ("§5.4 placing: not inside memory -14, overlap -22, in this order over both", place_order),
+    ("§5.4 placing again replaces both while nothing is mapped; else -16", place_again),
+    ("§5.6, §5.4 a device ID not below the number of entries is -22", device_id),
+    ("§5.6 bits not 1 to 16 -22, ITT not divisible by 256 -22", device_form),
+    ("§5.6, §1.6 a mapped device -17, a 33rd -12", device_limit),
+    ("§5.6, §5.5 an ITT not inside memory -14, overlap -22", device_place),
+    ("§5.6 the order of a device's faults", device_order),
+    ("§5.7 removing a device: not mapped -2; its events go too", device_removal),
+    ("§5.8, §1.6 ICID and pe -22, a 17th collection -12, a new pe", collection),
+    ("§5.9 removing a collection: not mapped -2, named by an event -22", collection_removal),
+    ("§5.10 the order of an event's faults", event_order),
+    ("§5.10 the bounds of event, LPI and ICID", event_limits),
+    ("§5.10, §1.6 a mapped event -17, a 1,025th -12", event_count),
+    ("§5.10 several events have the same LPI", shared_lpi),
+    ("§5.11, §5.12, §5.13 discard, move and lookup of what is not there: -2", missing),
+    ("§5.13 lookup is LPI + 65,536 x pe", lookup),
+    ("§5.12 move gives the event another collection", moves),
+    ("§5.14 RESET: -6, running -16, then empty and not placed", reset),
+    ("§5.3 placing and commands work while running", running),
 ];
 
 pub const MEMORY: u64 = 0x4000_0000;
@@ -210,7 +210,7 @@ fn place_again(c: &mut Case) {
     c.device(0, MEMORY + 3 * PAGE, 1, 0);
     c.no_device(0, 0);
     c.no_device(1023, 0);
-    // Collections alone make a mapping not empty.
+    // A collection alone is something that is mapped.
     c.collection(3, 0, 0);
     c.place(MEMORY, 1, MEMORY + PAGE, 1, -16);
     c.no_collection(3, 0);
@@ -272,7 +272,7 @@ fn device_place(c: &mut Case) {
     c.device(1, END - 0x200, 6, -22);
     c.device(1, END - 0x300, 6, -22);
     c.device(1, END - 0x300, 5, 0);
-    // An ITT covers exactly 8 x 2^bits bytes: 16 bytes here, but the next may begin 256 bytes on only.
+    // 16 bytes here (§5.5), but the next one can begin no sooner than 256 bytes on.
     c.device(2, MEMORY + 2 * PAGE, 1, 0);
     c.device(3, MEMORY + 2 * PAGE + 0x100, 5, 0);
     c.device(4, MEMORY + 2 * PAGE + 0x200, 9, 0);

@@ -1,5 +1,6 @@
-//! Directed cases: one or more for each sentence, with the answers that the text gives written out.
-//! Each case runs against the library and against the model, from a fresh guest of its own.
+//! Directed cases: one or more for each paragraph of docs/DEFINITION.md that tells what a call does, with the answers
+//! written out. A title begins with the paragraphs that are tried. Each case runs against the library and against the
+//! model, from a fresh guest of its own; around every call §2.4 is watched.
 
 mod banks;
 mod case;
@@ -15,6 +16,7 @@ mod save;
 #[cfg(feature = "its")]
 mod sound;
 
+use crate::call::{Call, Device};
 use crate::model::Model;
 use crate::report::{Kind, Report};
 use crate::sides::{Both, Library, Side};
@@ -42,6 +44,7 @@ pub fn run(report: &mut Report) {
         run_one(&mut Library::new(&vec![0x5a; Library::len()]), Kind::DirectedLibrary, name, body, report);
         run_one(&mut Model::default(), Kind::DirectedModel, name, body, report);
     }
+    in_turns(report);
     #[cfg(feature = "its")]
     sound::run(report);
 }
@@ -65,5 +68,47 @@ fn run_one(side: &mut dyn Side, kind: Kind, name: &str, body: fn(&mut Case), rep
     match case.notes.first() {
         None => report.pass(1),
         Some(note) => report.fail(kind, &format!("directed {label}: {name}"), note),
+    }
+}
+
+/// A guest's first calls, other ones for each `n`.
+fn first_calls(n: u64) -> Vec<(Call, Vec<u8>)> {
+    let set = |group, attribute| Call::Set { device: Device::Vgic, group, attribute };
+    vec![
+        (Call::Setup { width: 40 + n, start: 0x4000_0000, length: 0x1000 << n }, vec![]),
+        (Call::VcpuAdd { affinity: 7 + n as u32 }, vec![]),
+        (set(3, 0), (64 + 32 * n as u32).to_le_bytes().to_vec()),
+        (set(0, 2), (0x0800_0000u64 << n).to_le_bytes().to_vec()),
+        (set(0, 3), (0x0900_0000u64 << n).to_le_bytes().to_vec()),
+        (set(4, 0), vec![]),
+        (Call::SetPending { vcpu: 0, intid: 20 + n }, vec![]),
+        (set(1, 0x204), (5u32 << n).to_le_bytes().to_vec()),
+        (if n == 0 { Call::Start } else { Call::Stop }, vec![]),
+    ]
+}
+
+/// §1.2: the library keeps nothing. Two guests whose calls take turns have the bytes that each one has alone.
+fn in_turns(report: &mut Report) {
+    let mut complaints = Vec::new();
+    let mut make = |library: &mut Library, (call, mut lent): (Call, Vec<u8>)| {
+        if library.call(&call, &mut lent, &mut complaints) != 0 {
+            complaints.push(format!("{call:x?} is refused"));
+        }
+    };
+    let fresh = || Library::new(&vec![0x5a; Library::len()]);
+    let (mut alone, mut turns) = ([fresh(), fresh()], [fresh(), fresh()]);
+    for (n, library) in alone.iter_mut().enumerate() {
+        first_calls(n as u64).into_iter().for_each(|step| make(library, step));
+    }
+    for (first, second) in first_calls(0).into_iter().zip(first_calls(1)) {
+        make(&mut turns[0], first);
+        make(&mut turns[1], second);
+    }
+    if (0..2).any(|n| alone[n].state.content() != turns[n].state.content()) {
+        complaints.push("a guest has other bytes than alone".into());
+    }
+    match complaints.first() {
+        None => report.pass(1),
+        Some(note) => report.fail(Kind::DirectedLibrary, "directed library: §1.2 guests whose calls take turns", note),
     }
 }

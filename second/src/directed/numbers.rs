@@ -1,23 +1,25 @@
-//! Section "Numbers handed back": names, widths and the order of faults.
+//! Part 2: answers, names, values and the order of the tests.
 
 use super::case::{Case, ITS, VGIC};
 
 pub const CASES: &[(&str, fn(&mut Case))] = &[
-    ("an unknown group is -6, compared whole", unknown_groups),
-    ("an unknown attribute of the VGIC's address group is -6", unknown_addresses),
-    ("an unknown attribute of the ITS address group is -19", its_addresses),
-    ("group 3 and group 4 know attribute 0 alone", unknown_controls),
-    ("an unknown name comes before a wrong width", name_before_width),
-    ("a wrong width is -14 and leaves the bytes", wrong_widths),
-    ("a wrong width comes before not ready", width_before_ready),
-    ("a wrong width comes before running", width_before_running),
-    ("not ready comes before the section's own faults", ready_before_own),
-    ("running comes before the section's own faults", running_before_own),
-    ("group 4 has no get", no_control_get),
-    ("group 4 lends no value", no_control_value),
-    ("save and restore through the set call are -14", tables_by_set),
-    ("calls that ask for no number answer 0", plain_success),
-    ("values are little endian", little_endian),
+    ("§2.6 an unknown group is -6, compared whole", unknown_groups),
+    ("§2.6 an unknown attribute of the VGIC's group 0 is -6", unknown_addresses),
+    ("§2.6 an unknown attribute of the ITS's group 0 is -19", its_addresses),
+    ("§2.7 groups 3 and 4 know no other attributes", unknown_controls),
+    ("§2.5 an unknown name comes before a wrong width", name_before_width),
+    ("§2.8, §2.4 a wrong width is -14 and leaves the bytes", wrong_widths),
+    ("§2.5 a wrong width comes before not ready", width_before_ready),
+    ("§2.5 a wrong width comes before running", width_before_running),
+    ("§2.5, §2.6 not ready comes before a call's own faults", ready_before_own),
+    ("§2.5, §4.12 running comes before a call's own faults", running_before_own),
+    ("§2.9 group 4 has no get", no_control_get),
+    ("§2.9 group 4 lends no value", no_control_value),
+    ("§2.9 save and restore through the set call are -14", tables_by_set),
+    ("§2.3 calls that ask for no number answer 0", plain_success),
+    ("§2.8 values are little endian", little_endian),
+    ("§2.1, §2.2 each refusal of the table", each_refusal),
+    ("§2.4 a refused call leaves all as it was", nothing_changes),
 ];
 
 const STRANGE_GROUPS: [u64; 10] = [2, 6, 8, 9, 255, 256, 1 << 32, (1 << 32) + 1, 1 << 63, u64::MAX];
@@ -248,4 +250,61 @@ fn little_endian(c: &mut Case) {
     c.pending(0, 50, 1);
     c.pending(0, 63, 1);
     c.pending(0, 33, 0);
+}
+
+fn each_refusal(c: &mut Case) {
+    c.no_get(VGIC, 0, 2, 8, -2);
+    c.put(2, 0, 0, -6);
+    c.start(-6);
+    c.base(2, 1 << 40, -7);
+    c.set(VGIC, 0, 2, &[0; 4], -14);
+    c.init(-19);
+    c.set(ITS, 0, 0, &[0; 8], -19);
+    c.base(2, 0x0800_0001, -22);
+    c.base(2, 0x0800_0000, 0);
+    c.base(2, 0x0800_0000, -17);
+    c.adds(64);
+    c.add(64, -12);
+    c.base(3, 0x0900_0000, 0);
+    c.init(0);
+    c.add(64, -16);
+    c.start(0);
+    c.no_get(VGIC, 1, 0x204, 4, -16);
+}
+
+/// The bytes of state and value are compared around each call; here the guest is asked as well.
+fn nothing_changes(c: &mut Case) {
+    c.ready(2);
+    c.raise(1, 20, 0);
+    c.put(1, 0x204, 0x55, 0);
+    c.put(7, 32, 0xaa, 0);
+    c.put(1, 0x10, 3, 0);
+    c.setup(35, 0x4000_0000, 0x1000, -22);
+    c.add(9, -16);
+    c.base(2, 0x0a00_0000, -17);
+    c.region(0, 0x0a00_0000, 1, -22);
+    c.its_base(0x0800_0000, -22);
+    c.put(3, 0, 64, -16);
+    c.redist(2, -22);
+    for call in [Case::raise, Case::clear, Case::activate, Case::pending] {
+        call(c, 2, 32, -22);
+        call(c, 0, 1024, -22);
+    }
+    c.line(0, 32, 2, -22);
+    c.trigger(0, 1024, u32::MAX, -22);
+    c.put(7, 33, u32::MAX, -22);
+    c.put(5, (9 << 32) + 0x10200, u32::MAX, -22);
+    c.start(0);
+    c.put(1, 0x204, u32::MAX, -16);
+    c.put(5, 0x10, 7, -16);
+    c.stop(0);
+    c.word(1, 0x204, 0x55);
+    c.word(7, 32, 0xaa);
+    c.word(1, 0x10, 3);
+    c.word(5, 0x10, 0);
+    c.word(5, (1 << 32) + 0x10200, 1 << 20);
+    c.word(3, 0, 256);
+    c.held_base(VGIC, 2, 0x0800_0000);
+    c.no_get(ITS, 0, 4, 8, -2);
+    c.redist(1, 0x080c_0000);
 }

@@ -1,4 +1,4 @@
-//! Restore and "Described".
+//! Parts 8 and 9: what bytes describe, and restore.
 
 use super::case::Case;
 use super::its::MEMORY;
@@ -6,25 +6,28 @@ use super::save::Memory;
 use crate::call::Call;
 
 pub const CASES: &[(&str, fn(&mut Case))] = &[
-    ("restore: memory's length -14, then -6, then running -16", refusals),
-    ("all-zero tables are the empty mapping (P10)", empty),
-    ("the sample image", sample),
-    ("restore replaces the mapping; a refused one keeps it", replaces),
-    ("collections: pe and repeat -22, 17th -12, all before devices", collections),
-    ("collections: bits [62:52] are not read, nor what comes after a clear V", collections_unread),
-    ("a collection table with no clear V is refused", collections_full),
-    ("device next: leaves the table, lands on a blank (P8), leads to nothing", device_next),
-    ("device next at the cap: exact, searched on, and past the end", device_cap),
-    ("entries jumped over or after the last are not read", unread),
-    ("the first device is the lowest valid entry", first_device),
-    ("device: next, size, 33rd, outside, overlap, in this order", device_order),
-    ("33 devices: -12, or -22 where the 33rd has a bad next", device_limit),
-    ("events: LPI, next (P9), ICID, 1,025th, in this order", event_order),
-    ("event next at the cap", event_cap),
-    ("a device's events come before the following device", event_before_device),
-    ("1,024 events come back, 1,025 are -12", event_limit),
-    ("pe is 36 bits and LPI 32 bits, compared whole", wide),
-    ("what was saved comes back, whatever stood elsewhere", round_trip),
+    ("§9.1 restore: length of memory -14, then -6, then running -16", refusals),
+    ("§12.10, §9.2 tables of zeros are the empty mapping", empty),
+    ("§11.4, §9.2 the example", sample),
+    ("§9.2 restore replaces the mapping; a refused one keeps it", replaces),
+    ("§9.4, §9.3 collections: pe and repeat -22, a 17th -12, all before devices", collections),
+    ("§8.2, §8.8, §6.3 collections: bits [62:52] are not read, nor what stands behind a blank", collections_unread),
+    ("§8.2, §9.4 a collection table without a blank entry is refused", collections_full),
+    ("§9.6 device next: past the table, onto a blank, to nothing", device_next),
+    ("§9.6, §8.5, §12.8 device next at the cap: exact, searched on, and past the end", device_cap),
+    ("§8.8 entries jumped over or behind the last are not read", unread),
+    ("§8.3, §9.6 the first device is the lowest valid entry", first_device),
+    ("§9.5, §8.7 device: next, bits, 33rd, not inside, overlap, in this order", device_order),
+    ("§9.5 33 devices: -12, or -22 where the 33rd has a bad next", device_limit),
+    ("§9.7, §8.7, §12.9 events: LPI, next, ICID", event_order),
+    ("§9.7, §9.6 event next at the cap", event_cap),
+    ("§9.3 the events of a device come before the following device", event_before_device),
+    ("§9.7 1,024 events come back, 1,025 are -12", event_limit),
+    ("§6.3, §6.4 all bits of pe and LPI are compared", wide),
+    ("§10.8, §8.4, §8.6 what was saved comes back, whatever stood elsewhere", round_trip),
+    ("§6.5, §9.6 an entry that no mapping can have is valid", valid_nonsense),
+    ("§8.1 what bytes describe depends on memory, tables and VCPUs alone", nothing_else),
+    ("§9.8 damage that still describes a mapping is restored", lost_quietly),
 ];
 
 const LENGTH: usize = 0x10_0000;
@@ -135,7 +138,7 @@ fn collections(c: &mut Case) {
     c.restore(&rows, -22);
     rows[16] = row(16, 100, 0);
     c.restore(&rows, -22);
-    // Collections come first: the device's -14 is not met.
+    // The device would be -14, but collections come first.
     c.restore(&[row(0, 7, 4), (DEVICES, device(0, 0, 4))], -22);
     rows[16] = row(16, 5, 0);
     rows.push((DEVICES, device(0, 0, 4)));
@@ -384,4 +387,86 @@ fn round_trip(c: &mut Case) {
     c.no_device(1, -2);
     c.no_collection(1, -2);
     c.no_device(20_001, 0);
+}
+
+fn valid_nonsense(c: &mut Case) {
+    c.its_placed(1);
+    let outside = (DEVICES, device(1, 0, 4));
+    // Where its next leads to a valid entry, the first one's ITT is the fault that is met; else the next is.
+    c.restore(&[outside, (DEVICES + 8, u64::MAX)], -14);
+    c.restore(&[outside, (DEVICES + 8, u64::MAX >> 1)], -22);
+    c.restore(&[(DEVICES, device(1, ITT, 4)), (DEVICES + 8, device(0, ITT + 0x100, 31))], -22);
+    // So in an ITT: an entry with LPI 1 is not blank, and is a fault unless it is jumped over.
+    let base = [(DEVICES, device(0, ITT, 4)), (COLLECTIONS, collection(7, 1))];
+    let events = |next: u64| [(ITT, event(next, 8192, 7)), (ITT + 8, event(0, 1, 7)), (ITT + 16, event(0, 9000, 7))];
+    c.restore(&[&base[..], &events(1)].concat(), -22);
+    c.restore(&[&base[..], &events(2)].concat(), 0);
+    c.lookup(0, 1, -2);
+    c.lookup(0, 2, 9000 + 65_536);
+    c.restore(&[&base[..], &events(1)[1..]].concat(), -22);
+}
+
+fn nothing_else(c: &mut Case) {
+    c.its_placed(1);
+    c.restore(&SAMPLE, 0);
+    c.lookup(0, 1, 8192 + 65_536);
+    // Another p, other affinities, frames, interrupts and registers, and a mapping that stands.
+    c.setup(52, MEMORY, LENGTH as u64, 0);
+    c.put(3, 0, 1024, 0);
+    (6..10).rev().for_each(|affinity| c.add(affinity, 0));
+    c.base(2, MEMORY, 0);
+    c.region(0, 0x1000_0000, 1, 0);
+    c.region(1, 0x2000_0000, 9, 0);
+    c.its_base(0x3000_0000, 0);
+    c.init(0);
+    c.its_init(0);
+    c.raise(1, 40, 0);
+    c.put(1, 0x10, 5, 0);
+    c.place(DEVICES, 1, COLLECTIONS, 1, 0);
+    c.collection(7, 3, 0);
+    c.device(0, ITT + 0x1000, 9, 0);
+    c.event(0, 1, 9000, 7, 0);
+    c.restore(&SAMPLE, 0);
+    c.lookup(0, 1, 8192 + 65_536);
+    // One VCPU: no pe is 1.
+    c.setup(40, MEMORY, LENGTH as u64, 0);
+    c.ready(1);
+    c.its_base(0x0900_0000, 0);
+    c.its_init(0);
+    c.place(DEVICES, 1, COLLECTIONS, 1, 0);
+    c.restore(&SAMPLE, -22);
+    // Tables in other places: nothing stands there.
+    c.setup(40, MEMORY, LENGTH as u64, 0);
+    c.its_ready();
+    c.place(MEMORY + 0x8000, 1, MEMORY + 0x9000, 1, 0);
+    c.restore(&SAMPLE, 0);
+    c.lookup(0, 1, -2);
+    // Another start of memory: the ITT does not lie in it.
+    let start = MEMORY + 0x1000_0000;
+    c.setup(40, start, LENGTH as u64, 0);
+    c.its_ready();
+    c.place(start, 1, start + 0x1000, 1, 0);
+    c.restore(&SAMPLE, -14);
+}
+
+fn lost_quietly(c: &mut Case) {
+    c.its_placed(1);
+    let second = ITT + 0x100;
+    let good = [
+        (DEVICES, device(1, ITT, 4)),
+        (DEVICES + 8, device(0, second, 4)),
+        (COLLECTIONS, collection(7, 1)),
+        (ITT, event(0, 8192, 7)),
+        (second, event(0, 8193, 7)),
+    ];
+    let (both, neither) = ([8192 + 65_536, 8193 + 65_536], [-2, -2]);
+    let mut check = |change: &[(u64, u64)], want: [i64; 2]| {
+        c.restore(&[&good[..], change].concat(), 0);
+        c.lookup(0, 0, want[0]);
+        c.lookup(1, 0, want[1]);
+    };
+    check(&[], both);
+    check(&[(DEVICES, device(1, ITT, 4) ^ 1 << 63)], [-2, both[1]]);
+    check(&[(DEVICES, device(0, ITT, 4))], [both[0], -2]);
+    check(&good.map(|(address, _)| (address, 0)), neither);
 }

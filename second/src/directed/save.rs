@@ -1,24 +1,25 @@
-//! Section "Table bytes": the entries and save.
+//! Parts 6 and 7: the entries, and save.
 
 use super::case::Case;
 use super::its::MEMORY;
 use crate::call::Call;
 
 pub const CASES: &[(&str, fn(&mut Case))] = &[
-    ("save: memory's length -14, then -6, then running -16", refusals),
-    ("the sample entries P2, P3 and P4", samples),
-    ("the empty mapping saves zeros in the two tables alone (P10)", empty),
-    ("every other entry of the tables and ITTs becomes zero", zeros),
-    ("next is the distance, at most 16,383 for devices (P6, P7)", device_next),
-    ("next of events, up to 65,535", event_next),
-    ("collections in rising ICID from entry 0", collections),
-    ("wide fields: ITT bits 51:8, the last pe", wide),
-    ("save leaves the state, and can be made again", again),
+    ("§7.1 save: length of memory -14, then -6, then running -16", refusals),
+    ("§6.2, §6.3, §6.4, §12.2, §12.3, §12.4 the sample entries", samples),
+    ("§7.6, §12.10 the empty mapping saves zeros in the two tables alone", empty),
+    ("§7.3, §7.5, §7.6 every other entry of the tables and ITTs becomes zero", zeros),
+    ("§7.2, §12.6, §12.7 next of devices, up to 16,383", device_next),
+    ("§7.2 next of events, up to 65,535", event_next),
+    ("§7.4 collections by rising ICID from entry 0", collections),
+    ("§6.1, §6.2, §6.3, §2.11 wide fields: the highest ITT, the last pe", wide),
+    ("§7.6 save leaves the state, and can be made again", again),
+    ("§5.1 one mapping, whatever commands made it", any_order),
 ];
 
 const LENGTH: usize = 0x10_0000;
 
-/// Memory as it was, and what the text says it becomes.
+/// Memory before a save, or what it must be after it.
 pub struct Memory {
     pub bytes: Vec<u8>,
     pub start: u64,
@@ -51,10 +52,8 @@ impl Case<'_> {
         let held = self.lent(Call::Save, &before.bytes, 0);
         if let Some(at) = held.iter().zip(&after.bytes).position(|(a, b)| a != b) {
             let address = before.start + (at as u64 & !7);
-            self.notes.push(format!(
-                "saved memory at {address:#x}: {:02x?}, the text says {:02x?}",
-                held[at], after.bytes[at]
-            ));
+            self.notes
+                .push(format!("saved memory at {address:#x}: {:02x?}, expected {:02x?}", held[at], after.bytes[at]));
         }
     }
 
@@ -98,6 +97,10 @@ fn samples(c: &mut Case) {
     c.device(3, 0x4000_3000, 5, 0);
     c.event(0, 1, 8192, 7, 0);
     c.event(0, 3, 8193, 7, 0);
+    saves_samples(c);
+}
+
+fn saves_samples(c: &mut Case) {
     c.saves(
         &[TABLES, (0x4000_2000, 256), (0x4000_3000, 256)],
         &[
@@ -213,4 +216,24 @@ fn again(c: &mut Case) {
         c.no_collection(7, -22);
         c.device(3, 0x4000_4000, 5, -17);
     }
+}
+
+/// The mapping of `samples` in another order and by other ways.
+fn any_order(c: &mut Case) {
+    c.its_placed(1);
+    c.device(9, 0x4000_2000, 5, 0);
+    c.collection(8, 0, 0);
+    c.device(3, 0x4000_3000, 5, 0);
+    c.event(9, 2, 9000, 8, 0);
+    c.no_device(9, 0);
+    c.device(0, 0x4000_2000, 5, 0);
+    c.event(0, 3, 8193, 8, 0);
+    c.collection(7, 3, 0);
+    c.event(0, 1, 8192, 7, 0);
+    c.event(0, 2, 8192, 7, 0);
+    c.collection(7, 1, 0);
+    c.moved(0, 3, 7, 0);
+    c.discard(0, 2, 0);
+    c.no_collection(8, 0);
+    saves_samples(c);
 }

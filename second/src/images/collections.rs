@@ -1,4 +1,4 @@
-//! Collection entries alone: two pages hold all that is read.
+//! Collection entries alone (§6.3, §8.2, §9.4): two pages hold all that is read.
 
 use super::image::{Image, COLLECTIONS, ENTRIES};
 use super::Set;
@@ -36,13 +36,14 @@ pub fn add(set: &mut Set) {
     unread(set);
 }
 
+/// §8.2.
 fn counts(set: &mut Set) {
     for count in [1, 2, 3, 15, 16] {
         set.shown(&format!("{count}"), table(&distinct(count)), [count as usize, 0, 0]);
     }
 }
 
-/// Any order is taken; the rows that are shown rise.
+/// §8.2: any order is taken. §11.2: the rows that are shown rise.
 fn orders(set: &mut Set) {
     set.shown("2-falling", table(&falling(2)), [2, 0, 0]);
     set.shown("16-falling", table(&falling(16)), [16, 0, 0]);
@@ -55,13 +56,14 @@ fn orders(set: &mut Set) {
     set.shown("icids-of-differing-width", table(&[(10, 0), (9, 1), (10_000, 2), (9999, 3), (100, 0)]), [5, 0, 0]);
 }
 
+/// §9.4.
 fn good_pes(set: &mut Set) {
     for pe in 0..4 {
         set.shown(&format!("pe-{pe}"), table(&[(7, pe)]), [1, 0, 0]);
     }
 }
 
-/// Each of the field's 36 bits counts, also beside a low part that would be good.
+/// §9.4, §6.3: each of the field's 36 bits counts, also beside a low part that would be good.
 fn bad_pes(set: &mut Set) {
     for pe in [4, 5, 7, 255, 65_535, 65_537, 1 << 31, 1 << 32, 1 << 32 | 1, 1 << 35, 1 << 35 | 3, (1 << 36) - 1] {
         set.refused(&format!("pe-{pe}"), table(&[(7, pe)]), -22);
@@ -72,6 +74,7 @@ fn bad_pes(set: &mut Set) {
     set.refused("pe-4-in-the-16th", table(&rows), -22);
 }
 
+/// §9.4.
 fn repeats(set: &mut Set) {
     set.refused("icid-repeated", table(&[(7, 1), (7, 1)]), -22);
     set.refused("icid-repeated-with-another-pe", table(&[(7, 1), (7, 2)]), -22);
@@ -83,6 +86,7 @@ fn repeats(set: &mut Set) {
     set.refused("icid-repeated-first-and-16th", table(&rows), -22);
 }
 
+/// §9.4, and §8.2 for what stands behind a blank.
 fn limit(set: &mut Set) {
     let mut rows = distinct(17);
     set.refused("17", table(&rows), -12);
@@ -95,7 +99,7 @@ fn limit(set: &mut Set) {
     set.refused("17th-repeats", table(&rows), -22);
 }
 
-/// No entry has V clear.
+/// §8.2, §9.4: no entry is blank.
 fn whole_table(set: &mut Set) {
     set.refused("whole-table", table(&distinct(ENTRIES)), -12);
     set.refused("whole-table-falling", table(&falling(ENTRIES)), -12);
@@ -103,7 +107,7 @@ fn whole_table(set: &mut Set) {
     set.refused("whole-table-of-ones", Image::blank(2).fill(COLLECTIONS, 0, ENTRIES, ONES), -22);
 }
 
-/// Bits [62:52] are not read.
+/// §8.8.
 fn res0(set: &mut Set) {
     let entry = table(&[(7, 1)]).entry(COLLECTIONS);
     for bit in 52..=62 {
@@ -112,6 +116,7 @@ fn res0(set: &mut Set) {
     set.shown("res0-all-bits", Image::blank(2).put(COLLECTIONS, entry | 0x7ff << 52), [1, 0, 0]);
 }
 
+/// §8.2, §8.8.
 fn unread(set: &mut Set) {
     let blank = Image::blank(2).put(COLLECTIONS, BLANK_ONES);
     set.shown("first-of-ones-with-v-clear", blank.clone(), [0, 0, 0]);

@@ -1,12 +1,11 @@
-//! Damage to a saved image: where nothing is read, in one bit, in one field, or in one entry.
+//! Damage to a saved image: where nothing is read (§8.8), in one bit, in one field, or in one entry.
 
 use super::image::{Image, COLLECTIONS, DEVICES, ENTRIES};
 use super::random::Saved;
 use crate::model::tables::take;
 use crate::rng::Rng;
 
-/// Fields as [high, low]: V, next, ITT and size of a device; V, zero, pe and ICID of a collection; next, LPI and ICID of
-/// an event.
+/// Fields as [high, low], in the order of §6.2, §6.3 (with its zeros) and §6.4.
 const DEVICE_FIELDS: &[(u32, u32)] = &[(63, 63), (62, 49), (48, 5), (4, 0)];
 const COLLECTION_FIELDS: &[(u32, u32)] = &[(63, 63), (62, 52), (51, 16), (15, 0)];
 const EVENT_FIELDS: &[(u32, u32)] = &[(63, 48), (47, 16), (15, 0)];
@@ -87,7 +86,7 @@ pub fn spoil_unread(rng: &mut Rng, saved: &mut Saved) {
     spoil_itts(rng, saved);
 }
 
-/// With bits in [62:52].
+/// §8.2: any order; §8.8: with bits in [62:52].
 fn mix_collections(rng: &mut Rng, saved: &mut Saved) {
     let addresses: Vec<u64> = read_spots(saved)[0].iter().map(|spot| spot.address).collect();
     let mut entries: Vec<u64> = addresses.iter().map(|address| saved.image.entry(*address)).collect();
@@ -97,7 +96,7 @@ fn mix_collections(rng: &mut Rng, saved: &mut Saved) {
     }
 }
 
-/// The entry after the last collection stays blank; those behind it hold anything.
+/// §8.2: the entry behind the last collection stays blank; those behind it hold anything.
 fn spoil_after_collections(rng: &mut Rng, saved: &mut Saved) {
     let count = saved.mapping.collections.len() as u64;
     saved.image.set(COLLECTIONS + 8 * count, rng.next() >> 1);
@@ -106,8 +105,8 @@ fn spoil_after_collections(rng: &mut Rng, saved: &mut Saved) {
     }
 }
 
-/// Entries below the first ID, all of them where there is none, stay blank: the bits of `valid` are clear. Those jumped
-/// over or after the last hold anything.
+/// §8.3: below the first ID, and everywhere where there is none, entries stay blank: the bits of `valid` are clear.
+/// Those that a next jumps over or behind the last hold anything (§8.8).
 fn spoil_chain(rng: &mut Rng, image: &mut Image, table: u64, entries: u64, ids: &[u64], valid: u64) {
     let first = ids.first().copied().unwrap_or(entries);
     for index in (0..entries).filter(|index| !ids.contains(index)) {
@@ -116,6 +115,7 @@ fn spoil_chain(rng: &mut Rng, image: &mut Image, table: u64, entries: u64, ids: 
     }
 }
 
+/// §8.6.
 fn spoil_itts(rng: &mut Rng, saved: &mut Saved) {
     for (id, device) in &saved.mapping.devices {
         let events = saved.mapping.events.keys().filter(|key| key.0 == *id).map(|key| key.1);

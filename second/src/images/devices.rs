@@ -1,11 +1,12 @@
-//! Device entries: how many there are, where their nexts lead, and entries that are not read. No device has an event.
+//! Device entries (§6.2, §8.3, §9.5, §9.6): how many there are, where their nexts lead, and entries that are not read.
+//! No device has an event.
 
 use super::image::{linked, Image, DEVICES, ENTRIES, ROOM};
 use super::Set;
 
 /// V clear, every other bit set.
 const BLANK_ONES: u64 = u64::MAX >> 1;
-/// The largest next that the field holds.
+/// §7.2: the cap.
 const CAP: u64 = 16_383;
 
 /// Devices by ID and next, each with an ITT of 256 bytes, one after the other; as many pages as these take.
@@ -47,13 +48,14 @@ pub fn add(set: &mut Set) {
     unread(set);
 }
 
+/// §8.3.
 fn one(set: &mut Set) {
     for id in [0, 1, 2, 255, 256, 510, 511] {
         set.shown(&format!("one-at-{id}"), chain(&[(id, 0)]), [0, 1, 0]);
     }
 }
 
-/// 511 is the largest distance in a page.
+/// §8.4. 511 is the largest distance in a page.
 fn two(set: &mut Set) {
     for (first, second) in [(0, 1), (0, 2), (0, 100), (0, 256), (0, 510), (0, 511), (1, 511), (254, 257), (510, 511)] {
         let image = chain(&linked(&[first, second]));
@@ -61,6 +63,7 @@ fn two(set: &mut Set) {
     }
 }
 
+/// §8.4.
 fn many(set: &mut Set) {
     set.shown("3", chain(&linked(&[0, 1, 2])), [0, 3, 0]);
     set.shown("3-apart", chain(&linked(&[0, 255, 511])), [0, 3, 0]);
@@ -72,6 +75,7 @@ fn many(set: &mut Set) {
     set.shown("32-at-the-end", chain(&linked(&every(1, 480, 32))), [0, 32, 0]);
 }
 
+/// §9.5; §8.8 for a 33rd that is not read.
 fn limit(set: &mut Set) {
     set.refused("33", chain(&linked(&ids(33))), -12);
     set.refused("33-at-the-end", chain(&linked(&every(1, 479, 33))), -12);
@@ -81,7 +85,7 @@ fn limit(set: &mut Set) {
     set.shown("33rd-jumped-over", chain(&linked(&but_9)).device(9, 1, itt(40), 5), [0, 32, 0]);
 }
 
-/// The 33rd entry's next and size are met before the limit, its ITT after it.
+/// §9.5: next and bits of the 33rd entry are met before the limit, its ITT after it.
 fn past_limit(set: &mut Set) {
     let full = || chain(&linked(&ids(33)));
     set.refused("33rd-next-onto-a-blank", full().device(32, 1, itt(32), 5), -22);
@@ -91,20 +95,21 @@ fn past_limit(set: &mut Set) {
     set.refused("33rd-itt-on-a-table", full().device(32, 0, DEVICES, 5), -12);
 }
 
-/// Nothing follows the device: whatever its next, it lands on a blank or leaves the table.
+/// §9.6: nothing follows the device. Whatever its next, it lands on a blank or leaves the table.
 fn each_bit(set: &mut Set) {
     for bit in 0..14 {
         set.refused(&format!("bit-{bit}"), chain(&[(0, 1 << bit)]), -22);
     }
 }
 
+/// §9.6.
 fn alone(set: &mut Set) {
     for (id, next) in [(0, 511), (0, 512), (1, 510), (1, 511), (510, 1), (511, 1), (0, CAP - 1), (0, CAP), (511, CAP)] {
         set.refused(&format!("{next}-from-{id}-with-nothing-after"), chain(&[(id, next)]), -22);
     }
 }
 
-/// Devices 0 and 5: any next but 5 loses the second, and only 0 says that it is the last.
+/// §9.6, §9.8: devices 0 and 5. Any next but 5 loses the second, and only 0 does so without a word.
 fn off_by_one(set: &mut Set) {
     for next in [1, 4, 6, 512, 512 + 5, 8192 + 5, CAP - 1, CAP] {
         set.refused(&format!("{next}-where-5-leads-on"), chain(&[(0, next), (5, 0)]), -22);
@@ -112,7 +117,7 @@ fn off_by_one(set: &mut Set) {
     set.shown("0-too-early", chain(&[(0, 0), (5, 0)]), [0, 1, 0]);
 }
 
-/// Devices 0, 5 and 9, with a next of the first or of the second changed.
+/// §9.6, §8.8: devices 0, 5 and 9, with a next of the first or of the second changed.
 fn jumps(set: &mut Set) {
     let three = |first: u64, second: u64| chain(&[(0, first), (5, second), (9, 0)]);
     set.shown("three-right", three(5, 4), [0, 3, 0]);
@@ -126,19 +131,21 @@ fn jumps(set: &mut Set) {
     set.refused("three-first-short", three(4, 4), -22);
 }
 
+/// §9.6.
 fn last_of_two(set: &mut Set) {
     for next in [1, 506, 507, CAP - 1, CAP] {
         set.refused(&format!("{next}-from-the-last-of-two"), chain(&[(0, 5), (5, next)]), -22);
     }
 }
 
-/// Behind the table's last entry lies the collection table, whose first entry has V set.
+/// §9.6: behind the last entry lies the collection table, whose first entry has V set.
 fn past_the_end(set: &mut Set) {
     set.refused("512-from-0-onto-a-collection", chain(&[(0, 512)]).collection(0, 7, 1), -22);
     set.refused("1-from-511-onto-a-collection", chain(&[(511, 1)]).collection(0, 7, 1), -22);
     set.refused("2-from-511-onto-a-collection", chain(&[(511, 2)]).collection(0, 7, 1).collection(1, 8, 1), -22);
 }
 
+/// §9.6, §9.8.
 fn among_many(set: &mut Set) {
     let changed = |at: usize, next: u64| {
         let mut rows = linked(&ids(32));
@@ -157,7 +164,7 @@ fn among_many(set: &mut Set) {
     set.refused("cap-in-the-middle-of-32", changed(15, CAP), -22);
 }
 
-/// An entry with V clear is blank, whatever else it holds.
+/// §6.2, §6.5: an entry with V clear is blank, whatever else it holds. §9.8: so the first may be lost.
 fn landings(set: &mut Set) {
     let at_5 = DEVICES + 8 * 5;
     set.refused("landing-of-ones-with-v-clear", chain(&[(0, 5)]).put(at_5, BLANK_ONES), -22);
@@ -168,6 +175,7 @@ fn landings(set: &mut Set) {
     set.shown("first-with-v-lost", chain(&[(0, 5), (5, 0)]).put(DEVICES, BLANK_ONES), [0, 1, 0]);
 }
 
+/// §8.3, §8.8.
 fn unread(set: &mut Set) {
     let two = || chain(&linked(&[4, 9]));
     let copy = two().entry(DEVICES + 8 * 4);

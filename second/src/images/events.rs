@@ -1,10 +1,11 @@
-//! Event entries: how many there are, where their nexts lead, LPIs and ICIDs, and entries that are not read.
+//! Event entries (§6.4, §8.6, §9.6, §9.7): how many there are, where their nexts lead, LPIs and ICIDs, and entries that
+//! are not read.
 
 use super::image::{linked, Image, COLLECTIONS, ENTRIES, ROOM};
 use super::Set;
 use crate::model::guest::PAGE;
 
-/// The largest next that the field holds.
+/// §7.2: the cap.
 const CAP: u64 = 65_535;
 /// An entry with LPI 0, every other bit set: blank.
 const BLANK_ONES: u64 = 0xffff_0000_0000_ffff;
@@ -57,13 +58,14 @@ pub fn add(set: &mut Set) {
     landings(set);
 }
 
+/// §8.6.
 fn one_event(set: &mut Set) {
     for (bits, number) in [(1, 0), (1, 1), (5, 0), (5, 1), (5, 31), (9, 511), (10, 1023)] {
         set.shown(&format!("one-at-{number}-of-{bits}-bits"), chain(bits, &[(number, 0)]), [2, 1, 1]);
     }
 }
 
-/// 4,095 is the largest distance in an image.
+/// §8.6. 4,095 is the largest distance in an image.
 fn two_events(set: &mut Set) {
     for (bits, first, second) in [(1, 0, 1), (5, 0, 31), (5, 1, 31), (5, 30, 31), (9, 0, 511), (12, 0, 4095)] {
         let image = chain(bits, &linked(&[first, second]));
@@ -71,6 +73,7 @@ fn two_events(set: &mut Set) {
     }
 }
 
+/// §8.6.
 fn full_tables(set: &mut Set) {
     for bits in [1, 2, 3, 5, 9, 10] {
         set.shown(&format!("full-of-{bits}-bits"), chain(bits, &linked(&numbers(1 << bits))), [2, 1, 1 << bits]);
@@ -95,6 +98,7 @@ fn filled(image: Image, itt: u64, bits: u64, icid: u64) -> Image {
     rows.into_iter().fold(image, |image, (number, next)| image.event(itt, number, next, 65_535 - number, icid))
 }
 
+/// §8.6, §9.3.
 fn several_devices(set: &mut Set) {
     set.shown("2-devices-of-2", spread(2, 1), [2, 2, 4]);
     set.shown("2-devices-of-512", spread(2, 9), [2, 2, 1024]);
@@ -103,7 +107,7 @@ fn several_devices(set: &mut Set) {
     set.shown("32-devices-of-32", spread(32, 5), [2, 32, 1024]);
 }
 
-/// The 1,025th entry's LPI, next and ICID are met before the limit.
+/// §9.7: LPI, next and ICID of the 1,025th are met before the limit.
 fn limit(set: &mut Set) {
     let rows = linked(&numbers(1025));
     let full = || chain(11, &rows);
@@ -127,13 +131,14 @@ fn one_more(lpi: u64, icid: u64) -> Image {
     image.device(1, 1, ROOM, 9).device(2, 0, third, 1).event(third, 0, 0, lpi, icid)
 }
 
-/// Nothing follows event 1 of 32: whatever its next, it lands on a blank or leaves the table.
+/// §9.6: nothing follows event 1 of 32. Whatever its next, it lands on a blank or leaves the table.
 fn each_bit(set: &mut Set) {
     for bit in 0..16 {
         set.refused(&format!("bit-{bit}"), chain(5, &[(1, 1 << bit)]), -22);
     }
 }
 
+/// §9.6, §12.9.
 fn alone(set: &mut Set) {
     for (bits, number, next) in [
         (1, 0, 1),
@@ -155,7 +160,7 @@ fn alone(set: &mut Set) {
     }
 }
 
-/// Events 0 and 5: any next but 5 loses the second, and only 0 says that it is the last.
+/// §9.6, §9.8: events 0 and 5. Any next but 5 loses the second, and only 0 does so without a word.
 fn off_by_one(set: &mut Set) {
     for next in [1, 4, 6, 32, 32 + 5, 16_383, 32_768 + 5, CAP - 1, CAP] {
         set.refused(&format!("{next}-where-5-leads-on"), chain(5, &[(0, next), (5, 0)]), -22);
@@ -163,7 +168,7 @@ fn off_by_one(set: &mut Set) {
     set.shown("0-too-early", chain(5, &[(0, 0), (5, 0)]), [2, 1, 1]);
 }
 
-/// Events 0, 5 and 9, with a next of the first or of the second changed.
+/// §9.6, §8.8: events 0, 5 and 9, with a next of the first or of the second changed.
 fn jumps(set: &mut Set) {
     let three = |first: u64, second: u64| chain(5, &[(0, first), (5, second), (9, 0)]);
     set.shown("three-right", three(5, 4), [2, 1, 3]);
@@ -177,6 +182,7 @@ fn jumps(set: &mut Set) {
     set.refused("three-first-short", three(4, 4), -22);
 }
 
+/// §9.6.
 fn last_of_two(set: &mut Set) {
     for next in [1, 26, 27, CAP - 1, CAP] {
         set.refused(&format!("{next}-from-the-last-of-two"), chain(5, &[(0, 5), (5, next)]), -22);
@@ -186,6 +192,7 @@ fn last_of_two(set: &mut Set) {
     set.refused("cap-in-the-middle-of-512", full().event(ROOM, 255, CAP, 8192, 7), -22);
 }
 
+/// §9.7, §5.10.
 fn good_fields(set: &mut Set) {
     set.shown("lpi-8192", one(8192, 7), [2, 1, 1]);
     set.shown("lpi-65535", one(65_535, 7), [2, 1, 1]);
@@ -199,7 +206,7 @@ fn good_fields(set: &mut Set) {
     set.shown("icid-of-a-collection-with-res0", one(8192, 7).put(COLLECTIONS, high), [2, 1, 1]);
 }
 
-/// Each of the field's 32 bits counts, also beside a low part that would be good.
+/// §9.7, §6.4: each of the field's 32 bits counts, also beside a low part that would be good.
 fn bad_lpis(set: &mut Set) {
     for lpi in [1, 4096, 8191, 65_536, 65_537, 8192 | 1 << 16, 8192 | 1 << 24, 1 << 31, 8192 | 1 << 31, (1 << 32) - 1] {
         set.refused(&format!("lpi-{lpi}"), one(lpi, 7), -22);
@@ -208,6 +215,7 @@ fn bad_lpis(set: &mut Set) {
     set.refused("lpi-1-in-the-first", one(8192, 7).event(ROOM, 0, 1, 1, 7), -22);
 }
 
+/// §9.7.
 fn bad_icids(set: &mut Set) {
     for icid in [0, 6, 8, 7 + 256, 7 + 32_768, 65_535] {
         set.refused(&format!("icid-{icid}-not-there"), one(8192, icid), -22);
@@ -218,6 +226,7 @@ fn bad_icids(set: &mut Set) {
     set.refused("no-collection-at-all", Image::blank(3).device(0, 0, ROOM, 5).event(ROOM, 0, 0, 8192, 0), -22);
 }
 
+/// §8.6, §8.8.
 fn unread(set: &mut Set) {
     let two = || chain(5, &linked(&[4, 9]));
     let copy = two().entry(ROOM + 8 * 4);
@@ -234,7 +243,7 @@ fn unread(set: &mut Set) {
     set.shown("left-over-below-the-first", two().event(ROOM, 1, 3, 9000, 9), [2, 1, 3]);
 }
 
-/// An entry with LPI 0 is blank, whatever else it holds.
+/// §6.4, §6.5: an entry with LPI 0 is blank, whatever else it holds.
 fn landings(set: &mut Set) {
     let at_5 = ROOM + 8 * 5;
     set.refused("landing-of-ones-with-lpi-0", chain(5, &[(0, 5)]).put(at_5, BLANK_ONES), -22);

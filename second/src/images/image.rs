@@ -9,7 +9,7 @@ pub const DEVICES: u64 = START;
 pub const COLLECTIONS: u64 = START + PAGE;
 /// The first byte after the two tables.
 pub const ROOM: u64 = START + 2 * PAGE;
-/// Each table is one page.
+/// §11.1: each table is one page.
 pub const ENTRIES: u64 = PAGE / ENTRY;
 
 #[derive(Clone)]
@@ -62,7 +62,7 @@ impl Image {
     }
 }
 
-/// Each ID with the distance to the following one, 0 at the last. No distance in an image reaches a cap.
+/// §7.2: each ID with its next. No distance in an image reaches a cap.
 pub fn linked(ids: &[u64]) -> Vec<(u64, u64)> {
     let next = |n: usize| ids.get(n + 1).map_or(0, |following| following - ids[n]);
     ids.iter().enumerate().map(|(n, id)| (*id, next(n))).collect()

@@ -1,14 +1,17 @@
-//! Document 01's example, empty images of every length that is read, and lengths that are not.
+//! The example (§11.4), empty images of every length that is read, and lengths that are not (§11.1).
 
 use super::image::{Image, COLLECTIONS, DEVICES, ROOM};
-use super::Set;
+use super::{Set, Want};
 
-/// P2 and P4 with next 0, and P3: the words of the sample table.
+/// The words of §12.2 and §12.4 with next 0 and as they are, and that of §12.3.
 const P2: u64 = 0x8000_0000_0800_0404;
 const P2_NEXT_3: u64 = 0x8006_0000_0800_0404;
 const P3: u64 = 0x8000_0000_0001_0007;
 const P4: u64 = 0x0000_0000_2000_0007;
 const P4_NEXT_2: u64 = 0x0002_0000_2000_0007;
+
+/// §11.4.
+const EXAMPLE: &str = "collections 1\n7 1\ndevices 1\n0 40002000 5\nevents 1\n0 1 8192 7\n";
 
 fn example(pages: u64) -> Image {
     Image::blank(pages).put(DEVICES, P2).put(COLLECTIONS, P3).put(ROOM + 8, P4)
@@ -16,7 +19,7 @@ fn example(pages: u64) -> Image {
 
 pub fn add(set: &mut Set) {
     set.begin("example");
-    set.shown("itself", example(4), [1, 1, 1]);
+    set.add("itself", example(4), Want::Whole(EXAMPLE.into()));
     samples(set);
     set.begin("empty");
     empty(set);
@@ -25,6 +28,7 @@ pub fn add(set: &mut Set) {
     wrong_lengths_of_good_bytes(set);
 }
 
+/// §11.1, §11.4, §12.2 to §12.4.
 fn samples(set: &mut Set) {
     set.shown("just-long-enough", example(3), [1, 1, 1]);
     set.shown("longest", example(16), [1, 1, 1]);
@@ -37,19 +41,21 @@ fn samples(set: &mut Set) {
     set.shown("event-next-2-onto-an-event", chained.put(ROOM + 8 * 3, P4), [1, 1, 2]);
 }
 
+/// §12.10.
 fn empty(set: &mut Set) {
     for pages in 2..=16 {
         set.shown(&format!("{:05}", 4096 * pages), Image::blank(pages), [0, 0, 0]);
     }
 }
 
+/// §11.1.
 fn wrong_lengths(set: &mut Set) {
     for length in [0, 1, 4095, 4096, 8191, 8193, 12_289, 65_535, 65_537, 69_632, 131_072] {
         set.refused(&format!("{length:06}"), Image::blank(0).of_length(length), -14);
     }
 }
 
-/// Bytes that would be shown if a reader cut them or took too few: the length alone refuses them.
+/// §11.1: bytes that would be shown if a reader cut them or took too few. Their length alone refuses them.
 fn wrong_lengths_of_good_bytes(set: &mut Set) {
     for length in [4096, 12_289, 16_383, 16_385, 65_537, 131_072] {
         set.refused(&format!("{length:06}-of-the-example"), example(4).of_length(length), -14);

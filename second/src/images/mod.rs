@@ -1,8 +1,9 @@
-//! Images for the showing program, always the same, named by what they are. Beside each stands what the text says of it.
+//! Images for the showing program (§11.1), always the same, named by what they are. Beside each stands what
+//! docs/DEFINITION.md says of it; the paragraphs are named over the functions.
 //!
 //! A device table of one page has 512 entries and an ITT inside 65,536 bytes at most 4,096, so no chain here can be one
-//! that the caps shorten: a next of 16,383 or 65,535 always leaves its table. What can be reached stands in `devices`
-//! and `events`: those values as damage, and the largest distances that fit (511 and 4,095).
+//! that the caps of §7.2 shorten: a next of 16,383 or 65,535 always leaves its table. What can be reached stands in
+//! `devices` and `events`: those values as damage, and the largest distances that fit (511 and 4,095).
 
 mod collections;
 mod damage;
@@ -20,14 +21,15 @@ use std::fs;
 use std::io::{Error, Result, Write};
 use std::path::Path;
 
-/// What the text says of an image.
+/// What is expected of an image.
 enum Want {
-    /// How many collections, devices and events are shown.
+    /// §11.2: how many collections, devices and events are shown.
     Counts([usize; 3]),
+    /// §11.3.
     Refused(i64),
-    /// All that is written.
+    /// §11.2: all that is written.
     Whole(String),
-    /// Damage at random: the text decides, but nobody wrote its answer out.
+    /// Damage at random: nobody wrote the answer out.
     Open,
 }
 
@@ -64,7 +66,7 @@ impl Set {
 }
 
 impl Row {
-    /// The model must say of the image what the text says: no image stands under a wrong name.
+    /// The model must say of the image what is expected: none stands under a wrong name.
     fn agrees(&self) -> bool {
         let text = show::text(&self.bytes);
         let has = |title: &str, count: &usize| text.lines().any(|line| line == format!("{title} {count}"));
@@ -80,7 +82,7 @@ impl Row {
     fn write(&self, folder: &Path) -> Result<()> {
         let file = format!("{}-{}", self.kind, self.name);
         if !self.agrees() {
-            return Err(Error::other(format!("{file}: the model does not say what the text says")));
+            return Err(Error::other(format!("{file}: the model says something else than what is expected")));
         }
         let created = fs::File::create_new(folder.join(&file));
         created.and_then(|mut image| image.write_all(&self.bytes)).map_err(|error| Error::new(error.kind(), file))

@@ -1,4 +1,4 @@
-//! Two faults in one image: the one that is met first gives the number.
+//! Two faults in one image: the one that is met first gives the number (§9.2).
 
 use super::image::{linked, Image, COLLECTIONS, DEVICES, ROOM};
 use super::Set;
@@ -38,6 +38,7 @@ pub fn add(set: &mut Set) {
     limits(set);
 }
 
+/// §9.3, §9.4.
 fn collections_first(set: &mut Set) {
     set.refused("pe-4-then-itt-outside", good().collection(0, 0, 4).device(0, 1, 0, 5), -22);
     set.refused("icid-repeated-then-itt-outside", good().collection(1, 0, 1).device(0, 1, 0, 5), -22);
@@ -48,6 +49,7 @@ fn collections_first(set: &mut Set) {
     set.refused("pe-4-then-17th-collection", collections(3, 17).collection(3, 3, 4), -22);
 }
 
+/// §9.5, §9.6.
 fn inside_a_device(set: &mut Set) {
     set.refused("next-and-itt-outside", good().device(0, 2, 0, 5), -22);
     set.refused("next-of-the-last-and-itt-outside", good().device(1, 1, 0, 5), -22);
@@ -55,11 +57,12 @@ fn inside_a_device(set: &mut Set) {
     set.refused("itt-outside-and-overlap", good().device(0, 1, COLLECTIONS, 16), -14);
     set.refused("itt-outside-and-overlap-with-the-first", good().device(1, 0, ROOM, 10), -14);
     set.refused("itt-outside-then-next-of-the-second", good().device(0, 1, 0, 5).device(1, 1, ROOM, 5), -14);
-    // The second entry's V is all that the first one's next asks for.
+    // §6.5: of the second entry the first one's next asks for no more than that it is valid.
     set.refused("itt-outside-then-ones", good().device(0, 1, 0, 5).put(DEVICES + 8, u64::MAX), -14);
     set.refused("overlap-then-itt-outside", good().device(0, 1, COLLECTIONS, 5).device(1, 0, 0, 5), -22);
 }
 
+/// §9.3, §9.7.
 fn events_before_the_next_device(set: &mut Set) {
     let outside = || good().device(1, 0, 0, 5);
     set.refused("good-events-then-itt-outside", outside(), -14);
@@ -70,6 +73,7 @@ fn events_before_the_next_device(set: &mut Set) {
     set.refused("lpi-of-the-second-device", good().event(ROOM + 0x100, 0, 0, 1, 0), -22);
 }
 
+/// §9.5, §9.7.
 fn limits(set: &mut Set) {
     set.refused("33rd-device", devices_33(), -12);
     set.refused("33rd-device-and-itt-outside", devices_33().device(32, 0, 0, 5), -12);

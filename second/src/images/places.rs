@@ -1,4 +1,4 @@
-//! Where ITTs lie: inside memory (-14), apart from the tables and from each other (-22), and how large they may be (-22).
+//! §9.5, but for its next and limit: how large ITTs are, where they lie, and what they lie over.
 
 use super::image::{linked, Image, COLLECTIONS, DEVICES, ROOM};
 use super::Set;
@@ -35,7 +35,7 @@ pub fn add(set: &mut Set) {
     unread(set);
 }
 
-/// Up to the largest ITT that fits beside the tables, 4,096 entries.
+/// §5.5: up to the largest ITT that fits beside the tables, 4,096 entries.
 fn fitting(set: &mut Set) {
     for bits in 1..=12u64 {
         let pages = 2 + (8u64 << bits).div_ceil(PAGE);
@@ -43,19 +43,21 @@ fn fitting(set: &mut Set) {
     }
 }
 
+/// -14.
 fn one_page_short(set: &mut Set) {
     for (pages, bits) in [(2, 1), (2, 9), (3, 10), (5, 11), (9, 12), (16, 13)] {
         set.refused(&format!("bits-{bits}-in-{pages}-pages"), one(pages, ROOM, bits), -14);
     }
 }
 
+/// -14.
 fn past_all_memory(set: &mut Set) {
     for bits in 14..=16 {
         set.refused(&format!("bits-{bits}"), one(3, ROOM, bits), -14);
     }
 }
 
-/// The field has five bits, so 17 to 32 can be written: refused wherever the ITT lies.
+/// -22: the field (§6.2) has room for 17 to 32, which are refused wherever the ITT lies.
 fn too_large(set: &mut Set) {
     for bits in [17, 18, 24, 31, 32] {
         set.refused(&format!("bits-{bits}"), one(3, ROOM, bits), -22);
@@ -73,6 +75,7 @@ fn whole_memory(set: &mut Set) {
     set.refused("bits-12-over-the-tables", one(10, DEVICES, 12), -22);
 }
 
+/// §2.10: an end at memory's end is inside.
 fn edges(set: &mut Set) {
     let end = ROOM + PAGE;
     set.shown("last-256-bytes", one(3, end - 0x100, 5), [0, 1, 0]);
@@ -88,7 +91,7 @@ fn edges(set: &mut Set) {
     set.refused("256-bytes-past-the-end", one(3, ROOM + 0x100, 9), -14);
 }
 
-/// An ITT that starts before memory is outside even where it reaches the device table.
+/// -14, even where an ITT that begins before memory reaches the device table.
 fn outside(set: &mut Set) {
     set.refused("256-bytes-before", one(3, DEVICES - 0x100, 5), -14);
     set.refused("over-the-start", one(3, DEVICES - 0x100, 6), -14);
@@ -117,6 +120,7 @@ fn one_bit(set: &mut Set) {
     }
 }
 
+/// -22.
 fn on_tables(set: &mut Set) {
     for (name, itt) in [
         ("device-table", DEVICES),
@@ -130,6 +134,7 @@ fn on_tables(set: &mut Set) {
     }
 }
 
+/// -22.
 fn of_two(set: &mut Set) {
     for (name, first, second) in [
         ("same", (ROOM, 5), (ROOM, 5)),
@@ -144,6 +149,7 @@ fn of_two(set: &mut Set) {
     }
 }
 
+/// §3.4: neighbours share no byte.
 fn of_none(set: &mut Set) {
     for (name, first, second) in [
         ("none-side-by-side", (ROOM, 5), (ROOM + 0x100, 5)),
@@ -155,7 +161,7 @@ fn of_none(set: &mut Set) {
     }
 }
 
-/// Not the neighbour alone counts, but every ITT read before.
+/// Not the neighbour alone counts, but every device met before.
 fn of_many(set: &mut Set) {
     let mut places: Vec<(u64, u64)> = (0..32).map(|n| (ROOM + 0x100 * n, 5)).collect();
     set.refused("third-on-second", several(&[places[0], places[1], places[1]]), -22);
@@ -172,7 +178,7 @@ fn of_many(set: &mut Set) {
     set.refused("32nd-on-collection-table", several(&places), -22);
 }
 
-/// ITTs of devices that are not read count for nothing.
+/// §8.8: ITTs of devices that are not read count for nothing.
 fn unread(set: &mut Set) {
     let jumped = Image::blank(3).device(0, 2, ROOM, 5).device(1, 0, ROOM, 5).device(2, 0, ROOM + 0x100, 5);
     set.shown("none-with-one-jumped-over", jumped, [0, 2, 0]);

@@ -1,4 +1,5 @@
-//! Images that the model's save made of random mappings: as they are, with other bytes where nothing is read, and damaged.
+//! Images that the model's save (§7.6) made of random mappings: as they are, with other bytes where nothing is read
+//! (§8.8), and damaged.
 
 use super::damage::{spoil_bit, spoil_entry, spoil_field, spoil_unread};
 use super::image::{Image, ROOM};
@@ -33,7 +34,7 @@ pub fn add(set: &mut Set) {
     spoilt(set, "random-entry", ENTRIES, 5000, spoil_entry, |_| Want::Open);
 }
 
-/// What was saved is shown, whatever stands where nothing is read.
+/// §10.8: what was saved is shown, whatever stands where nothing is read.
 fn whole(saved: &Saved) -> Want {
     Want::Whole(show::rows(&saved.mapping))
 }
@@ -49,13 +50,13 @@ fn spoilt(set: &mut Set, kind: &'static str, count: u64, seed: u64, spoil: Spoil
     }
 }
 
-/// A command that the text allows: the maker asks for nothing else.
+/// A command that must be accepted: the maker asks for nothing else.
 fn command(model: &mut Model, call: Call) {
     let answer = model.call(&call, &mut []);
     assert_eq!(answer, 0, "{call:x?} is refused");
 }
 
-/// Most images are short; a save leaves the bytes outside its tables as they were, so these are junk now and then.
+/// Most images are short. What a save leaves alone (§7.6) is junk now and then.
 fn make(rng: &mut Rng) -> Saved {
     let pages = rng.pick(&[3, 3, 3, 3, 3, 3, 3, 3, 4, 4, 5]);
     let mut model = show::placed(pages * PAGE);
@@ -70,7 +71,7 @@ fn make(rng: &mut Rng) -> Saved {
     Saved { image, mapping: model.guest().its.mapping.clone() }
 }
 
-/// One that stands gets the new pe, so that fewer than asked for may come out.
+/// One that is mapped takes the new pe (§5.8), so that fewer than asked for may come out.
 fn map_collections(rng: &mut Rng, model: &mut Model) {
     for _ in 0..rng.pick(&[1, 2, 3, 5, 10, 16]) {
         let icid = if rng.one_in(2) { rng.below(65_536) } else { rng.below(40) };

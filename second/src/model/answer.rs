@@ -1,33 +1,35 @@
-//! Section "Numbers handed back".
+//! What a call answers: §2.1 to §2.3.
 
-/// Success is the number asked for, else 0; a refusal is named here and becomes a number at the very end.
+/// §2.3: the number that is asked for, or 0. A refusal keeps its name up to the very end.
 pub type Answer = Result<u64, Refusal>;
 
+/// §2.2, by the reason.
 #[derive(Clone, Copy, Debug, PartialEq, Eq)]
 pub enum Refusal {
-    /// What is named does not stand.
+    /// Something named that is not there.
     Missing,
-    /// Unknown group, attribute or offset.
+    /// A name that nobody knows (§2.6).
     Unknown,
-    /// Not set up far enough.
+    /// The guest is not ready for the call.
     NotReady,
-    /// A frame ends above 2^p.
+    /// A frame's end is above 2^p.
     AboveTop,
-    /// One more than a limit.
+    /// One over a limit (§1.6).
     Limit,
-    /// Wrong width of the lent value or length of lent memory; an area not wholly inside memory.
+    /// Another length than the right one (§2.8, §7.1); an area that leaves memory.
     Outside,
-    /// VCPUs running, or already fixed.
+    /// The guest runs, or this is fixed.
     Busy,
-    /// Already configured or mapped.
+    /// Set or mapped before.
     Exists,
-    /// INIT with no VCPU; unknown attribute in the ITS address group.
+    /// VGIC INIT without a VCPU (§3.11); group 0 of the ITS (§2.6).
     NoDevice,
-    /// Every other fault.
+    /// All the rest.
     Invalid,
 }
 
 impl Refusal {
+    /// §2.2.
     pub fn number(self) -> i64 {
         match self {
             Refusal::Missing => -2,
@@ -44,6 +46,7 @@ impl Refusal {
     }
 }
 
+/// §2.1.
 pub fn number(answer: Answer) -> i64 {
     match answer {
         Ok(asked) => asked as i64,
@@ -51,7 +54,7 @@ pub fn number(answer: Answer) -> i64 {
     }
 }
 
-/// A fault that is refused if it is there: the checks below read in the order in which the text lists them.
+/// Refuses if the fault is there. Where several stand below each other, the first that applies is the answer (§2.5).
 pub fn refuse_if(fault: bool, refusal: Refusal) -> Result<(), Refusal> {
     if fault {
         Err(refusal)

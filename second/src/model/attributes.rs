@@ -1,5 +1,5 @@
-//! The attribute calls: names, widths, and the order in which faults are met
-//! (unknown name; width; not ready; running; then what each section lists).
+//! The attribute calls: names (§2.6, §2.7), values (§2.8) and the order of the tests (§2.5); then the interrupt count
+//! (§3.14) and the registers of part 4.
 
 use super::answer::{refuse_if, Answer, Refusal};
 use super::banks::fresh_shared;
@@ -7,7 +7,7 @@ use super::frames::Base;
 use super::guest::Guest;
 use crate::call::Device;
 
-/// What a group and an attribute name.
+/// §2.7: what a group and an attribute name.
 #[derive(Clone, Copy, PartialEq, Eq, Debug)]
 pub enum Name {
     Base(Base),
@@ -19,10 +19,11 @@ pub enum Name {
     Level(u64),
     ItsInit,
     ItsReset,
-    /// Save and restore have calls of their own: here no memory is lent, so its length is wrong.
+    /// Save and restore by the set call: no length is right (§2.9).
     ItsTables,
 }
 
+/// §4.11, §4.12.
 #[derive(Clone, Copy, PartialEq, Eq, Debug)]
 pub enum Register {
     Latch(u32),
@@ -31,7 +32,7 @@ pub enum Register {
     Status,
 }
 
-/// 0x200+4n is the latch word (0x200 itself reads 0), 0x280+4n reads 0, n is 0 to 31; 0x0010 is STATUSR.
+/// §4.11: the offsets of group 1.
 fn distributor_register(offset: u32) -> Option<Register> {
     match offset {
         0x0010 => Some(Register::Status),
@@ -42,7 +43,7 @@ fn distributor_register(offset: u32) -> Option<Register> {
     }
 }
 
-/// In group 5 the two offsets are 0x10200 and 0x10280.
+/// §4.12: the offsets of group 5.
 fn redistributor_register(offset: u32) -> Option<Register> {
     match offset {
         0x0010 => Some(Register::Status),
@@ -52,7 +53,7 @@ fn redistributor_register(offset: u32) -> Option<Register> {
     }
 }
 
-/// Groups and attributes are compared whole; only group 1 ignores attribute bits 63:32.
+/// §2.6, §2.7: each of the 64 bits counts, but in group 1.
 fn vgic_name(group: u64, attribute: u64) -> Option<Name> {
     let offset = attribute as u32;
     let affinity = (attribute >> 32) as u32;
@@ -69,7 +70,7 @@ fn vgic_name(group: u64, attribute: u64) -> Option<Name> {
     }
 }
 
-/// In the ITS address group an unknown attribute is -19.
+/// §2.6, §2.7: in group 0 every other attribute is -19.
 fn its_name(group: u64, attribute: u64) -> Result<Name, Refusal> {
     match (group, attribute) {
         (0, 4) => Ok(Name::Base(Base::Its)),
@@ -81,6 +82,7 @@ fn its_name(group: u64, attribute: u64) -> Result<Name, Refusal> {
     }
 }
 
+/// §2.6: a name is looked for before anything else.
 fn name_of(device: Device, group: u64, attribute: u64) -> Result<Name, Refusal> {
     match device {
         Device::Vgic => vgic_name(group, attribute).ok_or(Refusal::Unknown),
@@ -88,7 +90,7 @@ fn name_of(device: Device, group: u64, attribute: u64) -> Result<Name, Refusal> 
     }
 }
 
-/// The width of the value in bytes; none is right where memory should have been lent.
+/// §2.7: the width of a value in bytes. None is right where memory would have to be lent (§2.9).
 fn width_of(name: Name) -> Option<usize> {
     match name {
         Name::Base(_) | Name::Region => Some(8),
@@ -98,15 +100,17 @@ fn width_of(name: Name) -> Option<usize> {
     }
 }
 
+/// §2.8.
 fn check_width(name: Name, value: &[u8]) -> Result<(), Refusal> {
     refuse_if(width_of(name) != Some(value.len()), Refusal::Outside)
 }
 
-/// Values are little endian.
+/// §2.8: little endian.
 fn read_value(value: &[u8]) -> u64 {
     value.iter().rev().fold(0, |number, byte| number << 8 | *byte as u64)
 }
 
+/// §2.8: the whole value.
 fn write_value(value: &mut [u8], number: u64) {
     for (n, byte) in value.iter_mut().enumerate() {
         *byte = (number >> (8 * n)) as u8;
@@ -114,6 +118,7 @@ fn write_value(value: &mut [u8], number: u64) {
 }
 
 impl Guest {
+    /// §2.5: the name, the width, and then what the function of the name tests.
     pub fn set(&mut self, device: Device, group: u64, attribute: u64, value: &[u8]) -> Answer {
         let name = name_of(device, group, attribute)?;
         check_width(name, value)?;
@@ -134,7 +139,7 @@ impl Guest {
         }
     }
 
-    /// Group 4 has no get, whatever the attribute and the width. A get that succeeds overwrites the whole value.
+    /// As a set, but group 4 has none (§2.9). A get of the count is refused by nothing else (§3.15).
     pub fn get(&mut self, device: Device, group: u64, attribute: u64, value: &mut [u8]) -> Answer {
         refuse_if(group == 4, Refusal::Unknown)?;
         let name = name_of(device, group, attribute)?;
@@ -152,8 +157,7 @@ impl Guest {
         Ok(0)
     }
 
-    /// Group 3: 64 to 1,024 in steps of 32, else -22; then -16 if set before or after INIT.
-    /// The shared banks are fresh with it: no call can have changed one yet, but a state taken over from bytes may differ.
+    /// §3.14. A guest that was taken over from bytes may have had shared banks that were not fresh: now they are.
     fn set_count(&mut self, number: u64) -> Answer {
         refuse_if(number < 64 || number > 1024 || number % 32 != 0, Refusal::Invalid)?;
         refuse_if(self.count_set || self.initialised, Refusal::Busy)?;
@@ -163,17 +167,17 @@ impl Guest {
         Ok(0)
     }
 
-    /// Groups 1, 5 and 7: -6 before INIT.
+    /// §4.10, §4.15: groups 1, 5 and 7.
     fn check_ready(&self) -> Result<(), Refusal> {
         refuse_if(!self.initialised, Refusal::NotReady)
     }
 
-    /// Groups 1 and 5: running -16, get and set alike.
+    /// §4.10: groups 1 and 5, a get as well as a set.
     fn check_stopped(&self) -> Result<(), Refusal> {
         refuse_if(self.running, Refusal::Busy)
     }
 
-    /// The distributor's latch words start with bank 1, so no VCPU has a part in them.
+    /// §4.11, §4.13, §4.14. Its latch words are those of the shared banks: no VCPU has a part in them.
     fn set_distributor(&mut self, register: Register, word: u32) -> Answer {
         self.check_ready()?;
         self.check_stopped()?;
@@ -185,6 +189,7 @@ impl Guest {
         Ok(0)
     }
 
+    /// §4.11, §4.14.
     fn get_distributor(&self, register: Register) -> Answer {
         self.check_ready()?;
         self.check_stopped()?;
@@ -195,14 +200,14 @@ impl Guest {
         })
     }
 
-    /// An unknown affinity is no unknown name: it comes after not-ready and running.
+    /// §4.12: an affinity is no name (§2.6), and so comes after the tests of §4.10.
     fn redistributor(&self, affinity: u32) -> Result<usize, Refusal> {
         self.check_ready()?;
         self.check_stopped()?;
         self.vcpu_of(affinity).ok_or(Refusal::Invalid)
     }
 
-    /// STATUSR, one for each frame, stores the low 4 bits as written.
+    /// §4.12, §4.13, §4.14.
     fn set_redistributor(&mut self, affinity: u32, register: Register, word: u32) -> Answer {
         let vcpu = self.redistributor(affinity)?;
         match register {
@@ -213,6 +218,7 @@ impl Guest {
         Ok(0)
     }
 
+    /// §4.12, §4.14.
     fn get_redistributor(&self, affinity: u32, register: Register) -> Answer {
         let vcpu = self.redistributor(affinity)?;
         Ok(match register {
@@ -222,8 +228,7 @@ impl Guest {
         })
     }
 
-    /// Group 7: affinity [63:32], info [31:10], vINTID [9:0]. Info not 0 or vINTID not a multiple of 32 is -22.
-    /// The affinity is looked up for vINTID 0 only. Running is no fault here.
+    /// §4.15: the parts of the attribute, and their tests. vINTID 0 alone has use for the affinity.
     fn level_bank(&self, attribute: u64) -> Result<(usize, u32), Refusal> {
         self.check_ready()?;
         let (affinity, info, vintid) = ((attribute >> 32) as u32, attribute >> 10 & 0x3f_ffff, attribute & 0x3ff);
@@ -236,12 +241,14 @@ impl Guest {
         Ok((0, vintid as u32 / 32))
     }
 
+    /// §4.15.
     fn set_level(&mut self, attribute: u64, word: u32) -> Answer {
         let (vcpu, bank) = self.level_bank(attribute)?;
         self.write_level_word(vcpu, bank, word);
         Ok(0)
     }
 
+    /// §4.15.
     fn get_level(&self, attribute: u64) -> Answer {
         let (vcpu, bank) = self.level_bank(attribute)?;
         Ok(self.level_word(vcpu, bank) as u64)

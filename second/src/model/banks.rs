@@ -1,11 +1,12 @@
-//! Section "Banks of 32 interrupts", held interrupt by interrupt: a word is put together only where one is asked for.
+//! Part 4, held interrupt by interrupt: a word is put together only where one is asked for.
 
 use super::answer::{refuse_if, Answer, Refusal};
 use super::guest::Guest;
 
-/// SGIs are INTIDs 0 to 15.
+/// §4.3: INTIDs 0 to 15.
 pub const SGIS: u32 = 16;
 
+/// §4.1: one bit of each of a bank's three words.
 #[derive(Clone, Copy, PartialEq, Eq, Debug, Default)]
 pub struct Irq {
     pub latch: bool,
@@ -14,7 +15,7 @@ pub struct Irq {
 }
 
 impl Irq {
-    /// The latch for an edge interrupt, latch or level for a level one.
+    /// §4.4.
     pub fn pending(&self) -> bool {
         if self.edge {
             self.latch
@@ -24,27 +25,28 @@ impl Irq {
     }
 }
 
-/// Fresh: all 0, but SGIs are always edge.
+/// §4.3: the bank of a VCPU.
 pub fn fresh_private() -> [Irq; 32] {
     std::array::from_fn(|intid| Irq { edge: (intid as u32) < SGIS, ..Irq::default() })
 }
 
-/// The shared banks of a guest with so many interrupts, all 0.
+/// §4.3: all the shared banks below this count.
 pub fn fresh_shared(count: u32) -> Vec<Irq> {
     vec![Irq::default(); count as usize - 32]
 }
 
-/// Bit n of a word tells of the n-th interrupt of a bank.
+/// §4.1: bit n is that of the bank's interrupt n.
 pub fn word_of(irqs: &[Irq], part: fn(&Irq) -> bool) -> u32 {
     irqs.iter().enumerate().map(|(n, irq)| (part(irq) as u32) << n).sum()
 }
 
+/// §2.11.
 pub fn bit(word: u32, n: usize) -> bool {
     word >> n & 1 == 1
 }
 
 impl Guest {
-    /// The 32 interrupts of a bank: the VCPU's own for bank 0, else a shared one; none at or above the count.
+    /// §4.2: bank 0 is the VCPU's own, the others are shared. From the count on there is none (§4.9).
     pub fn bank(&self, vcpu: usize, bank: u32) -> Option<&[Irq]> {
         match bank {
             0 => Some(&self.vcpus[vcpu].irqs),
@@ -53,6 +55,7 @@ impl Guest {
         }
     }
 
+    /// §4.2, §4.9.
     pub fn bank_mut(&mut self, vcpu: usize, bank: u32) -> Option<&mut [Irq]> {
         match bank {
             0 => Some(&mut self.vcpus[vcpu].irqs),
@@ -61,19 +64,20 @@ impl Guest {
         }
     }
 
-    /// The interrupt calls: -6 before INIT, then -22 for a VCPU not below the VCPUs or an INTID above 1,023.
+    /// §4.8: the tests of all six calls.
     fn check_irq(&self, vcpu: u64, intid: u64) -> Result<(), Refusal> {
         refuse_if(!self.initialised, Refusal::NotReady)?;
         refuse_if(vcpu >= self.vcpus.len() as u64, Refusal::Invalid)?;
         refuse_if(intid > 1023, Refusal::Invalid)
     }
 
-    /// INTIDs from the count to 1,023 are no fault: there is just nothing there.
+    /// §4.2; none from the count on (§4.9).
     fn irq_mut(&mut self, vcpu: u64, intid: u64) -> Option<&mut Irq> {
         let bank = self.bank_mut(vcpu as usize, intid as u32 / 32)?;
         Some(&mut bank[intid as usize % 32])
     }
 
+    /// §4.4, §4.9.
     pub fn pending(&self, vcpu: u64, intid: u64) -> Answer {
         self.check_irq(vcpu, intid)?;
         match self.bank(vcpu as usize, intid as u32 / 32) {
@@ -82,7 +86,7 @@ impl Guest {
         }
     }
 
-    /// Guest set raises the named INTID's latch; clear and activation lower it.
+    /// §4.5: set, clear and activate.
     pub fn set_latch(&mut self, vcpu: u64, intid: u64, latch: bool) -> Answer {
         self.check_irq(vcpu, intid)?;
         if let Some(irq) = self.irq_mut(vcpu, intid) {
@@ -91,8 +95,7 @@ impl Guest {
         Ok(0)
     }
 
-    /// A device's line change stores its level; a rise from 0 to 1 of an edge interrupt also raises its latch.
-    /// SGIs ignore it, but a level above 1 is -22 for them too.
+    /// §4.6; of a level above 1 §4.8 speaks, for SGIs as well.
     pub fn line(&mut self, vcpu: u64, intid: u64, level: u64) -> Answer {
         self.check_irq(vcpu, intid)?;
         refuse_if(level > 1, Refusal::Invalid)?;
@@ -107,7 +110,7 @@ impl Guest {
         Ok(0)
     }
 
-    /// A guest trigger write stores the whole trigger word of the INTID's bank and nothing else; SGIs stay edge.
+    /// §4.7: SGIs are passed over.
     pub fn trigger(&mut self, vcpu: u64, intid: u64, word: u32) -> Answer {
         self.check_irq(vcpu, intid)?;
         let number = intid as u32 / 32;
@@ -120,23 +123,24 @@ impl Guest {
         Ok(0)
     }
 
-    /// The latch word of a bank, 0 where there is no bank.
+    /// §4.11, §4.12; 0 where there is no bank (§4.9).
     pub fn latch_word(&self, vcpu: usize, bank: u32) -> u32 {
         self.bank(vcpu, bank).map_or(0, |irqs| word_of(irqs, |irq| irq.latch))
     }
 
-    /// Latch words are written whole, SGI bits too.
+    /// §4.13.
     pub fn write_latch_word(&mut self, vcpu: usize, bank: u32, word: u32) {
         for (n, irq) in self.bank_mut(vcpu, bank).unwrap_or_default().iter_mut().enumerate() {
             irq.latch = bit(word, n);
         }
     }
 
+    /// §4.15; 0 where there is no bank (§4.9).
     pub fn level_word(&self, vcpu: usize, bank: u32) -> u32 {
         self.bank(vcpu, bank).map_or(0, |irqs| word_of(irqs, |irq| irq.level))
     }
 
-    /// The level word is stored without edge detection; SGIs keep level 0.
+    /// §4.15: no rise is looked for, and SGIs are passed over.
     pub fn write_level_word(&mut self, vcpu: usize, bank: u32, word: u32) {
         let first = if bank == 0 { SGIS as usize } else { 0 };
         for (n, irq) in self.bank_mut(vcpu, bank).unwrap_or_default().iter_mut().enumerate().skip(first) {

@@ -1,12 +1,12 @@
-//! The paragraph "Described", clause by clause, with no word about how restore walks.
-//! `describes` decides whether the bytes describe a given mapping; `described` finds the mapping they describe, if any.
+//! Part 8, rule by rule, and nothing of how restore walks. `describes` decides whether the bytes describe a given
+//! mapping; `described` finds the one that they describe, if any.
 
 use super::its::{Device, Event, Mapping, COLLECTION_LIMIT, DEVICE_LIMIT, EVENT_LIMIT};
 use super::restore::World;
 use super::tables::{DEVICE_CAP, EVENT_CAP};
 use std::collections::BTreeSet;
 
-/// One linked table of the paragraph: which entries are blank and which next each holds.
+/// A table with nexts (§8.4, §8.6): which of its entries are blank, and the next of each.
 struct Links<'a> {
     entries: u64,
     cap: u64,
@@ -14,6 +14,7 @@ struct Links<'a> {
     next: Box<dyn Fn(u64) -> u64 + 'a>,
 }
 
+/// §6.2, §7.2: blank, next and cap in the device table.
 fn device_links<'a>(world: &'a World) -> Links<'a> {
     let table = world.tables.devices;
     Links {
@@ -24,6 +25,7 @@ fn device_links<'a>(world: &'a World) -> Links<'a> {
     }
 }
 
+/// §6.4, §7.2: the same in an ITT.
 fn event_links<'a>(world: &'a World, device: Device) -> Links<'a> {
     Links {
         entries: 1 << device.bits,
@@ -38,14 +40,15 @@ impl Links<'_> {
         (from..to).all(|index| (self.blank)(index))
     }
 
-    /// `next` of `id` is as Save says if `following` comes after it, and nothing stands from a capped landing up to it.
+    /// §8.4: the next of `id` is right if `following` comes after it. §8.5: nothing stands from a capped landing up to
+    /// that one.
     fn leads(&self, id: u64, following: u64) -> bool {
         let distance = following - id;
         let capped = distance <= self.cap || self.all_blank(id + self.cap, following);
         (self.next)(id) == distance.min(self.cap) && capped
     }
 
-    /// The clauses over one table: its IDs hold valid entries, all below the first are blank, each next is right.
+    /// §8.3 to §8.5, for an ITT §8.6: the IDs have valid entries, below the first all are blank, each next is right.
     fn hold(&self, ids: &[u64]) -> bool {
         let first = ids.first().copied().unwrap_or(self.entries);
         let valid = ids.iter().all(|id| *id < self.entries && !(self.blank)(*id));
@@ -55,8 +58,8 @@ impl Links<'_> {
             && ids.last().is_none_or(|last| (self.next)(*last) == 0)
     }
 
-    /// The only IDs that can hold, if any: the first is the lowest that is not blank, and the one after an ID is the
-    /// one to which it leads. More than `limit` are none.
+    /// The only IDs for which that can hold, if any: the first is the lowest that is not blank (§8.3), and behind each
+    /// one comes the one to which it leads (§8.4). More than `limit` are none (§8.7).
     fn only(&self, limit: usize) -> Option<Vec<u64>> {
         let mut ids: Vec<u64> = (0..self.entries).find(|id| !(self.blank)(*id)).into_iter().collect();
         while let Some(last) = ids.last().copied().filter(|last| (self.next)(*last) != 0) {
@@ -70,24 +73,26 @@ impl Links<'_> {
     }
 }
 
-/// The collection entries before the first with V clear; all, if there is none.
+/// §8.2: the entries in front of the first blank one.
 fn collection_rows(world: &World) -> Vec<(u64, u64)> {
     let table = world.tables.collections;
     let entries = (0..table.entries()).map(|index| world.entry(table.start, index));
     entries.take_while(|entry| entry >> 63 == 1).map(|entry| (entry & 0xffff, entry << 12 >> 28)).collect()
 }
 
+/// §6.2: ITT and bits.
 fn device_at(world: &World, id: u64) -> Device {
     let entry = world.entry(world.tables.devices.start, id);
     Device { itt: (entry & 0x0001_ffff_ffff_ffe0) << 3, bits: (entry & 0x1f) + 1 }
 }
 
+/// §6.4: LPI and ICID.
 fn event_at(world: &World, device: Device, number: u64) -> Event {
     let entry = world.entry(device.itt, number);
     Event { lpi: entry << 16 >> 32, icid: entry & 0xffff }
 }
 
-/// Collections: ICIDs distinct, each pe below the VCPUs, at most 16, and they are the mapping's.
+/// §8.2; of §8.7 the pe and the limit.
 fn collections_hold(world: &World, mapping: &Mapping) -> bool {
     let rows = collection_rows(world);
     let distinct: BTreeSet<u64> = rows.iter().map(|row| row.0).collect();
@@ -97,7 +102,7 @@ fn collections_hold(world: &World, mapping: &Mapping) -> bool {
         && rows.into_iter().collect::<std::collections::BTreeMap<_, _>>() == mapping.collections
 }
 
-/// Places as the commands demand: inside memory, and no two tables share a byte.
+/// §8.7: where ITTs lie (§1.14).
 fn places_hold(world: &World, mapping: &Mapping) -> bool {
     let mut areas = vec![world.tables.devices.area(), world.tables.collections.area()];
     for device in mapping.devices.values() {
@@ -112,11 +117,12 @@ fn places_hold(world: &World, mapping: &Mapping) -> bool {
     true
 }
 
+/// The events of a device, rising.
 fn events_of(mapping: &Mapping, id: u64) -> Vec<u64> {
     mapping.events.keys().filter(|key| key.0 == id).map(|key| key.1).collect()
 }
 
-/// Events: of mapped devices, LPI 8,192 to 65,535, ICID among the collections, fields as in the bytes.
+/// §8.6; of §8.7 what an event names, its LPI and the limit.
 fn events_hold(world: &World, mapping: &Mapping) -> bool {
     let fields = mapping.events.iter().all(|((id, number), event)| {
         mapping.devices.get(id).is_some_and(|device| {
@@ -130,7 +136,7 @@ fn events_hold(world: &World, mapping: &Mapping) -> bool {
     fields && mapping.events.len() <= EVENT_LIMIT && mapping.devices.iter().all(links)
 }
 
-/// Whether the bytes describe the mapping.
+/// §8.1: §8.2 to §8.7 hold.
 pub fn describes(world: &World, mapping: &Mapping) -> bool {
     let ids: Vec<u64> = mapping.devices.keys().copied().collect();
     collections_hold(world, mapping)
@@ -141,7 +147,7 @@ pub fn describes(world: &World, mapping: &Mapping) -> bool {
         && events_hold(world, mapping)
 }
 
-/// The mapping that the bytes describe, if there is one: no other than the candidate can be described.
+/// §8.1: bytes describe one mapping at most, so that it is this candidate or none.
 pub fn described(world: &World) -> Option<Mapping> {
     let mut candidate = Mapping { collections: collection_rows(world).into_iter().collect(), ..Mapping::default() };
     for id in device_links(world).only(DEVICE_LIMIT)? {

@@ -1,15 +1,15 @@
-//! Section "VCPUs and frames": bases, regions, INIT and the place of each redistributor.
+//! Part 3 without its VCPUs: bases, regions, VGIC INIT and where each redistributor lies.
 
 use super::answer::{refuse_if, Answer, Refusal};
 use super::guest::{Area, Guest, REGION_LIMIT};
 
-/// Bases are multiples of 65,536.
+/// §3.5.
 pub const FRAME_STEP: u64 = 65_536;
-/// The distributor takes 64 KiB.
+/// §3.3.
 pub const DISTRIBUTOR_SIZE: u128 = 64 * 1024;
-/// The ITS takes 128 KiB.
+/// §3.3.
 pub const ITS_SIZE: u128 = 128 * 1024;
-/// Redistributors take 128 KiB each.
+/// §3.3: of each redistributor.
 pub const REDIST_SIZE: u128 = 128 * 1024;
 
 #[derive(Clone, Copy, PartialEq, Eq, Debug)]
@@ -26,7 +26,7 @@ pub struct Frames {
     pub regions: Vec<Region>,
 }
 
-/// The three bases that are set once, each by an attribute of its own.
+/// §3.5: the bases that an attribute of their own sets.
 #[derive(Clone, Copy, PartialEq, Eq, Debug)]
 pub enum Base {
     Distributor,
@@ -35,11 +35,12 @@ pub enum Base {
 }
 
 impl Region {
+    /// §3.7.
     pub fn area(&self) -> Area {
         Area::new(self.base, self.count as u128 * REDIST_SIZE)
     }
 
-    /// The region word: count [63:52], base [51:16], flags [15:12] (always 0 here), index [11:0].
+    /// §3.7, with flags 0 (§3.10).
     pub fn word(&self, index: u64) -> u64 {
         self.count << 52 | self.base | index
     }
@@ -54,7 +55,7 @@ impl Guest {
         }
     }
 
-    /// The single run counts as 128 KiB before INIT, as 128 KiB for each VCPU at and after it.
+    /// §3.6; `at_init` in the test of INIT itself.
     fn single_size(&self, at_init: bool) -> u128 {
         if self.initialised || at_init {
             self.vcpus.len() as u128 * REDIST_SIZE
@@ -63,6 +64,7 @@ impl Guest {
         }
     }
 
+    /// §3.3, §3.6.
     fn base_size(&self, base: Base) -> u128 {
         match base {
             Base::Distributor => DISTRIBUTOR_SIZE,
@@ -71,13 +73,14 @@ impl Guest {
         }
     }
 
-    /// The areas of all standing frames.
+    /// Every frame that stands (§3.4).
     pub fn standing(&self) -> Vec<Area> {
         let mut areas = self.standing_but_single();
         areas.extend(self.frames.single.map(|base| Area::new(base, self.single_size(false))));
         areas
     }
 
+    /// The same without the single run: INIT holds the whole of it against them (§3.11).
     fn standing_but_single(&self) -> Vec<Area> {
         let mut areas: Vec<Area> = self.frames.regions.iter().map(Region::area).collect();
         areas.extend(self.frames.distributor.map(|base| Area::new(base, DISTRIBUTOR_SIZE)));
@@ -85,13 +88,13 @@ impl Guest {
         areas
     }
 
-    /// -7 for an end above 2^p (an end at 2^p is allowed), then -22 for an overlap with a standing frame.
+    /// The last two tests of §3.5 and §3.8.
     fn check_place(&self, area: Area) -> Result<(), Refusal> {
         refuse_if(area.end > self.top(), Refusal::AboveTop)?;
         refuse_if(self.standing().iter().any(|other| other.overlaps(&area)), Refusal::Invalid)
     }
 
-    /// Set 2, 3 or 4: attribute 3 while regions stand -22; already set -17; not a multiple -22; -7; overlap -22.
+    /// §3.5.
     pub fn set_base(&mut self, base: Base, address: u64) -> Answer {
         refuse_if(base == Base::Single && !self.frames.regions.is_empty(), Refusal::Invalid)?;
         refuse_if(self.slot(base).is_some(), Refusal::Exists)?;
@@ -101,13 +104,13 @@ impl Guest {
         Ok(0)
     }
 
-    /// Get 3 while regions stand is -22, before the -2 of an unset base.
+    /// §3.9.
     pub fn get_base(&mut self, base: Base) -> Answer {
         refuse_if(base == Base::Single && !self.frames.regions.is_empty(), Refusal::Invalid)?;
         (*self.slot(base)).ok_or(Refusal::Missing)
     }
 
-    /// Set 5, its faults in the order listed. Allowed after INIT.
+    /// §3.8, before INIT and after it.
     pub fn add_region(&mut self, word: u64) -> Answer {
         let (index, flags) = (word & 0xfff, word >> 12 & 0xf);
         let region = Region { base: word & 0x000f_ffff_ffff_0000, count: word >> 52 };
@@ -122,7 +125,7 @@ impl Guest {
         Ok(0)
     }
 
-    /// Get 5 reads the index bits of the lent value alone. Single run stands -22; no such region -2.
+    /// §3.10.
     pub fn get_region(&self, lent: u64) -> Answer {
         refuse_if(self.frames.single.is_some(), Refusal::Invalid)?;
         let index = lent & 0xfff;
@@ -130,7 +133,7 @@ impl Guest {
         Ok(region.word(index))
     }
 
-    /// VGIC INIT. Done before: 0. No VCPU -19. Every other fault -6.
+    /// §3.11.
     pub fn init(&mut self) -> Answer {
         if self.initialised {
             return Ok(0);
@@ -142,8 +145,7 @@ impl Guest {
         Ok(0)
     }
 
-    /// There is a place for each VCPU's redistributor: the region counts sum to at least the VCPUs, or the whole single
-    /// run ends at most at 2^p and meets no other frame.
+    /// §3.11: what it says of the single run and of the regions.
     fn redistributors_fit(&self) -> bool {
         if let Some(base) = self.frames.single {
             let whole = Area::new(base, self.single_size(true));
@@ -153,7 +155,7 @@ impl Guest {
         !self.frames.regions.is_empty() && sum >= self.vcpus.len() as u64
     }
 
-    /// The regions in order; the single run is one, of as many as there are VCPUs.
+    /// §3.12: the single run is one region, of all the VCPUs.
     fn places(&self) -> Vec<Region> {
         match self.frames.single {
             Some(base) => vec![Region { base, count: self.vcpus.len() as u64 }],
@@ -161,8 +163,7 @@ impl Guest {
         }
     }
 
-    /// VCPU k's frame is in the region where the running sum of counts first exceeds k, at
-    /// base + 131,072 x (k - counts before). Asking: -6 before INIT, -22 for k not below the VCPUs.
+    /// §3.13, and §3.12 for the address.
     pub fn redist_base(&self, k: u64) -> Answer {
         refuse_if(!self.initialised, Refusal::NotReady)?;
         refuse_if(k >= self.vcpus.len() as u64, Refusal::Invalid)?;

@@ -1,16 +1,19 @@
-//! Section "What the box holds": the guest, its limits and set-up.
+//! Part 1: the guest, its limits and set-up. Of part 3 the VCPUs.
 
 use super::answer::{refuse_if, Refusal};
 use super::banks::{fresh_private, fresh_shared, Irq};
 use super::frames::Frames;
 
+/// §1.4, §5.4.
 pub const PAGE: u64 = 4096;
+/// §1.6.
 pub const VCPU_LIMIT: usize = 64;
+/// §1.6.
 pub const REGION_LIMIT: usize = 32;
-/// A fresh guest has 256 interrupts.
+/// §1.5.
 pub const FRESH_COUNT: u32 = 256;
 
-/// Bytes from `start` up to, not with, `end`. Wide numbers: sums never wrap.
+/// Bytes from `start` up to, not with, `end`. In wide numbers no sum wraps (§2.10).
 #[derive(Clone, Copy, Debug, PartialEq, Eq)]
 pub struct Area {
     pub start: u128,
@@ -22,16 +25,18 @@ impl Area {
         Area { start: start as u128, end: start as u128 + length }
     }
 
-    /// Two areas overlap if they share a byte.
+    /// §3.4.
     pub fn overlaps(&self, other: &Area) -> bool {
         self.start < other.end && other.start < self.end
     }
 
+    /// §2.10: an end at its bound is inside.
     pub fn inside(&self, other: &Area) -> bool {
         other.start <= self.start && self.end <= other.end
     }
 }
 
+/// §3.1: affinity, bank and STATUSR.
 #[derive(Clone, PartialEq, Debug)]
 pub struct Vcpu {
     pub affinity: u32,
@@ -39,18 +44,19 @@ pub struct Vcpu {
     pub status: u32,
 }
 
+/// §1.1: one guest. What its bytes hold (§1.7), in a form of its own.
 #[derive(Clone, PartialEq, Debug)]
 pub struct Guest {
     pub width: u32,
     pub memory: Area,
-    /// In order of adding.
+    /// As they were added (§3.1).
     pub vcpus: Vec<Vcpu>,
     pub frames: Frames,
     pub initialised: bool,
     pub running: bool,
     pub count: u32,
     pub count_set: bool,
-    /// INTID 32 is element 0; as many as there are interrupts from 32 on.
+    /// The shared banks, one after the other: INTID 32 is element 0 (§4.2).
     pub shared: Vec<Irq>,
     pub status: u32,
     #[cfg(feature = "its")]
@@ -58,7 +64,7 @@ pub struct Guest {
 }
 
 impl Guest {
-    /// Set-up: p is 36 to 52; start and length are multiples of 4,096; length 4,096 to 2^30; end at most 2^p.
+    /// §1.4. The guest that comes out is fresh (§1.5).
     pub fn set_up(width: u64, start: u64, length: u64) -> Result<Guest, Refusal> {
         refuse_if(width < 36 || width > 52, Refusal::Invalid)?;
         refuse_if(start % PAGE != 0, Refusal::Invalid)?;
@@ -82,7 +88,7 @@ impl Guest {
         })
     }
 
-    /// After INIT -16, affinity taken -22, a 65th -12.
+    /// §3.1.
     pub fn add_vcpu(&mut self, affinity: u32) -> super::answer::Answer {
         refuse_if(self.initialised, Refusal::Busy)?;
         refuse_if(self.vcpu_of(affinity).is_some(), Refusal::Invalid)?;
@@ -91,11 +97,12 @@ impl Guest {
         Ok(0)
     }
 
+    /// The number of the VCPU with this affinity: there is one at most (§1.12).
     pub fn vcpu_of(&self, affinity: u32) -> Option<usize> {
         self.vcpus.iter().position(|vcpu| vcpu.affinity == affinity)
     }
 
-    /// Start and stop set one mark; -6 before INIT. Doing it twice is no fault.
+    /// §3.2.
     pub fn set_running(&mut self, running: bool) -> super::answer::Answer {
         refuse_if(!self.initialised, Refusal::NotReady)?;
         self.running = running;

@@ -1,29 +1,34 @@
-//! Section "Mapping commands": ITS INIT, placing, the commands, lookup and RESET.
+//! Part 5: ITS INIT, placing, the mapping commands, lookup and RESET.
 
 use super::answer::{refuse_if, Answer, Refusal};
 use super::guest::{Area, Guest, PAGE};
 use crate::call::Call;
 use std::collections::BTreeMap;
 
+/// §1.6.
 pub const COLLECTION_LIMIT: usize = 16;
+/// §1.6.
 pub const DEVICE_LIMIT: usize = 32;
+/// §1.6.
 pub const EVENT_LIMIT: usize = 1024;
-/// Entries of every table are 8 bytes.
+/// §6.1: the bytes of an entry.
 pub const ENTRY: u64 = 8;
 
+/// §5.1: a device without its ID.
 #[derive(Clone, Copy, PartialEq, Eq, Debug)]
 pub struct Device {
     pub itt: u64,
     pub bits: u64,
 }
 
+/// §5.1: an event without its device and number.
 #[derive(Clone, Copy, PartialEq, Eq, Debug)]
 pub struct Event {
     pub lpi: u64,
     pub icid: u64,
 }
 
-/// A mapping is three sets: collections (ICID, pe), devices by ID, events by device and event.
+/// §5.1. Devices by ID, events by device and number, of each ICID the pe.
 #[derive(Clone, PartialEq, Eq, Debug, Default)]
 pub struct Mapping {
     pub collections: BTreeMap<u64, u64>,
@@ -31,6 +36,7 @@ pub struct Mapping {
     pub events: BTreeMap<(u64, u64), Event>,
 }
 
+/// §5.4: a table's place.
 #[derive(Clone, Copy, PartialEq, Eq, Debug)]
 pub struct Table {
     pub start: u64,
@@ -51,28 +57,31 @@ pub struct Its {
 }
 
 impl Device {
-    /// An ITT covers exactly 8 x 2^bits bytes.
+    /// §5.5: the ITT.
     pub fn area(&self) -> Area {
         Area::new(self.itt, (ENTRY << self.bits) as u128)
     }
 }
 
 impl Mapping {
+    /// §5.4: a collection alone is something.
     pub fn is_empty(&self) -> bool {
         self.collections.is_empty() && self.devices.is_empty() && self.events.is_empty()
     }
 }
 
 impl Table {
+    /// §5.5.
     pub fn area(&self) -> Area {
         Area::new(self.start, self.pages as u128 * PAGE as u128)
     }
 
+    /// §5.4: 512 to a page.
     pub fn entries(&self) -> u64 {
         self.pages * PAGE / ENTRY
     }
 
-    /// Start not a multiple of 4,096 or pages not 1 to 128.
+    /// §5.4: start and pages.
     fn misshapen(&self) -> bool {
         self.start % PAGE != 0 || self.pages < 1 || self.pages > 128
     }
@@ -100,14 +109,14 @@ impl Guest {
         }
     }
 
-    /// -6 unless the VGIC is initialised and the ITS base set; repeated: 0.
+    /// §5.2.
     pub fn its_init(&mut self) -> Answer {
         refuse_if(!self.initialised || self.frames.its.is_none(), Refusal::NotReady)?;
         self.its.initialised = true;
         Ok(0)
     }
 
-    /// RESET: mapping empty, tables not placed; the ITS stays initialised. The tables need not be placed.
+    /// §5.14: tables need not be placed for it (§5.3).
     pub fn its_reset(&mut self) -> Answer {
         refuse_if(!self.its.initialised, Refusal::NotReady)?;
         refuse_if(self.running, Refusal::Busy)?;
@@ -116,7 +125,7 @@ impl Guest {
         Ok(0)
     }
 
-    /// Placing is judged fault by fault over both tables: form -22, outside memory -14, overlap -22.
+    /// §5.4: each test is made of both tables before the next one.
     fn place(&mut self, tables: Tables) -> Answer {
         refuse_if(!self.its.initialised, Refusal::NotReady)?;
         refuse_if(!self.its.mapping.is_empty(), Refusal::Busy)?;
@@ -129,20 +138,20 @@ impl Guest {
         Ok(0)
     }
 
-    /// Every command: -6 before ITS INIT, and until the tables are placed.
+    /// §5.3: of every command, save and restore.
     pub fn placed(&self) -> Result<Tables, Refusal> {
         refuse_if(!self.its.initialised, Refusal::NotReady)?;
         self.its.tables.ok_or(Refusal::NotReady)
     }
 
-    /// The two tables and every ITT that stands.
+    /// §5.5.
     fn table_areas(&self, tables: Tables) -> Vec<Area> {
         let mut areas = vec![tables.devices.area(), tables.collections.area()];
         areas.extend(self.its.mapping.devices.values().map(Device::area));
         areas
     }
 
-    /// Device, its faults in the order listed.
+    /// §5.6.
     fn map_device(&mut self, id: u64, device: Device) -> Answer {
         let tables = self.placed()?;
         refuse_if(id >= tables.devices.entries(), Refusal::Invalid)?;
@@ -157,7 +166,7 @@ impl Guest {
         Ok(0)
     }
 
-    /// Removal: not mapped -2; its events go too.
+    /// §5.7.
     fn unmap_device(&mut self, id: u64) -> Answer {
         self.placed()?;
         self.its.mapping.devices.remove(&id).ok_or(Refusal::Missing)?;
@@ -165,7 +174,7 @@ impl Guest {
         Ok(0)
     }
 
-    /// Icid larger or pe not below the VCPUs -22; 17th -12; one that stands gets the new pe.
+    /// §5.8.
     fn map_collection(&mut self, icid: u64, pe: u64) -> Answer {
         self.placed()?;
         refuse_if(icid >= 65_536 || pe >= self.vcpus.len() as u64, Refusal::Invalid)?;
@@ -176,7 +185,7 @@ impl Guest {
         Ok(0)
     }
 
-    /// Removal: not there -2; named by an event -22.
+    /// §5.9.
     fn unmap_collection(&mut self, icid: u64) -> Answer {
         self.placed()?;
         let mapping = &mut self.its.mapping;
@@ -186,7 +195,7 @@ impl Guest {
         Ok(0)
     }
 
-    /// Event, its faults in the order listed. Two events may share an LPI.
+    /// §5.10.
     fn map_event(&mut self, id: u64, number: u64, event: Event) -> Answer {
         self.placed()?;
         let mapping = &mut self.its.mapping;
@@ -200,13 +209,14 @@ impl Guest {
         Ok(0)
     }
 
+    /// §5.11.
     fn discard(&mut self, id: u64, number: u64) -> Answer {
         self.placed()?;
         self.its.mapping.events.remove(&(id, number)).ok_or(Refusal::Missing)?;
         Ok(0)
     }
 
-    /// -2 where anything named is missing; a move to the collection that it has is 0.
+    /// §5.12.
     fn move_event(&mut self, id: u64, number: u64, icid: u64) -> Answer {
         self.placed()?;
         let mapping = &mut self.its.mapping;
@@ -215,7 +225,7 @@ impl Guest {
         Ok(0)
     }
 
-    /// lpi + 65,536 x pe.
+    /// §5.13.
     fn lookup(&self, id: u64, number: u64) -> Answer {
         self.placed()?;
         let mapping = &self.its.mapping;

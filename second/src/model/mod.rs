@@ -1,5 +1,6 @@
-//! The model: what document 01 says, with no thought for speed and with its own way of holding the state.
-//! One module for each of its sections.
+//! The model of docs/DEFINITION.md: parts 1 to 9, with no thought for speed and with its own way of holding the state.
+//! Every rule names its paragraph. The test of the state (§1.3) is not here, but in `state` and `random`: the model has
+//! no bytes.
 
 pub mod answer;
 pub mod attributes;

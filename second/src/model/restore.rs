@@ -1,11 +1,11 @@
-//! Restore, by its rules: faults in the order in which document 01 meets them, and the first gives the number.
+//! Part 9: restore as it walks. The first fault on the way is the answer (§9.2).
 
 use super::answer::{refuse_if, Answer, Refusal};
 use super::guest::{Area, Guest};
 use super::its::{Device, Event, Mapping, Table, Tables, COLLECTION_LIMIT, DEVICE_LIMIT, ENTRY, EVENT_LIMIT};
 use super::tables::{take, DEVICE_CAP, EVENT_CAP};
 
-/// What restore reads: the lent memory and where things are in it.
+/// All that a restore depends on (§8.1).
 pub struct World<'a> {
     pub memory: &'a [u8],
     pub area: Area,
@@ -14,14 +14,14 @@ pub struct World<'a> {
 }
 
 impl World<'_> {
-    /// Entry `index` of the table at `start`, which lies inside memory.
+    /// §6.1: entry `index` of the table at `start`, which lies inside memory.
     pub fn entry(&self, start: u64, index: u64) -> u64 {
         let at = (start as u128 + (index * ENTRY) as u128 - self.area.start) as usize;
         u64::from_le_bytes(self.memory[at..at + 8].try_into().expect("8 bytes"))
     }
 }
 
-/// A table of linked entries, as the walk sees it.
+/// A table with nexts.
 struct Linked<'a> {
     world: &'a World<'a>,
     start: u64,
@@ -30,11 +30,12 @@ struct Linked<'a> {
     valid: fn(u64) -> bool,
 }
 
+/// §6.2, §6.5.
 fn device_valid(entry: u64) -> bool {
     take(entry, 63, 63) == 1
 }
 
-/// An event entry with LPI 0 is blank.
+/// §6.4, §6.5.
 fn event_valid(entry: u64) -> bool {
     take(entry, 47, 16) != 0
 }
@@ -48,12 +49,12 @@ impl Linked<'_> {
         (self.valid)(self.entry(index))
     }
 
+    /// §9.6: the first valid entry from `index` on.
     fn first_from(&self, index: u64) -> Option<u64> {
         (index..self.entries).find(|index| self.stands(*index))
     }
 
-    /// Where a next leads: nowhere for 0; -22 where it leaves the table, lands on a blank below the cap, or nothing
-    /// valid follows at the cap.
+    /// §9.6: where a next leads, if it does not end the table.
     fn follow(&self, index: u64, next: u64) -> Result<Option<u64>, Refusal> {
         if next == 0 {
             return Ok(None);
@@ -68,7 +69,7 @@ impl Linked<'_> {
     }
 }
 
-/// Collection entries rising, up to the first with V clear: pe, repeat -22; 17th -12.
+/// §9.4, rising (§9.3) up to the first blank entry (§8.2).
 fn read_collections(world: &World, mapping: &mut Mapping) -> Result<(), Refusal> {
     let Table { start, .. } = world.tables.collections;
     for index in 0..world.tables.collections.entries() {
@@ -85,7 +86,7 @@ fn read_collections(world: &World, mapping: &mut Mapping) -> Result<(), Refusal>
     Ok(())
 }
 
-/// Devices rising; each device's events come right after it.
+/// §9.3, §9.5: the next comes first, and before the following device all the events.
 fn read_devices(world: &World, mapping: &mut Mapping) -> Result<(), Refusal> {
     let table = world.tables.devices;
     let linked = Linked { world, start: table.start, entries: table.entries(), cap: DEVICE_CAP, valid: device_valid };
@@ -102,7 +103,7 @@ fn read_devices(world: &World, mapping: &mut Mapping) -> Result<(), Refusal> {
     Ok(())
 }
 
-/// After its next: size -22; 33rd -12; ITT outside memory -14; overlap with the tables and the ITTs read before -22.
+/// §9.5, behind the next.
 fn check_device(world: &World, mapping: &Mapping, device: &Device) -> Result<(), Refusal> {
     refuse_if(device.bits > 16, Refusal::Invalid)?;
     refuse_if(mapping.devices.len() >= DEVICE_LIMIT, Refusal::Limit)?;
@@ -112,7 +113,7 @@ fn check_device(world: &World, mapping: &Mapping, device: &Device) -> Result<(),
     refuse_if(others.iter().any(|other| other.overlaps(&device.area())), Refusal::Invalid)
 }
 
-/// Events rising: LPI -22, next -22, ICID not in the collections -22, 1,025th -12.
+/// §9.7.
 fn read_events(world: &World, mapping: &mut Mapping, id: u64, device: &Device) -> Result<(), Refusal> {
     let linked = Linked { world, start: device.itt, entries: 1 << device.bits, cap: EVENT_CAP, valid: event_valid };
     let mut at = linked.first_from(0);
@@ -134,7 +135,7 @@ impl Guest {
         World { memory, area: self.memory, tables, vcpus: self.vcpus.len() as u64 }
     }
 
-    /// Replaces the mapping and changes nothing else; the old mapping does not count.
+    /// §9.1, §9.2: what stood before does not count, and nothing else changes.
     pub fn restore(&mut self, memory: &[u8]) -> Answer {
         let tables = self.check_tables(memory.len())?;
         let world = self.world(tables, memory);

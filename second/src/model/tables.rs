@@ -1,41 +1,42 @@
-//! Section "Table bytes": the entries' fields, and save.
+//! Parts 6 and 7: entries, and save.
 
 use super::answer::{refuse_if, Answer, Refusal};
 use super::guest::Guest;
 use super::its::{Device, Event, Tables, ENTRY};
 
-/// The largest next of a device entry and of an event entry.
+/// §7.2: the cap in the device table.
 pub const DEVICE_CAP: u64 = 16_383;
+/// §7.2: the cap in an ITT.
 pub const EVENT_CAP: u64 = 65_535;
 
-/// Puts `value` at bits [high:low].
+/// §2.11: puts `value` at bits [high:low].
 fn put(value: u64, high: u32, low: u32) -> u64 {
     assert!(value as u128 >> (high - low + 1) == 0, "the field is too narrow for {value}");
     value << low
 }
 
-/// Takes the bits [high:low].
+/// §2.11: takes the bits [high:low].
 #[cfg(feature = "restore")]
 pub fn take(entry: u64, high: u32, low: u32) -> u64 {
     (entry >> low) % (1 << (high - low + 1))
 }
 
-/// Device: V 63, next [62:49], ITT address bits [51:8] in [48:5], bits - 1 in [4:0].
+/// §6.2.
 pub fn device_entry(device: &Device, next: u64) -> u64 {
     put(1, 63, 63) | put(next, 62, 49) | put(device.itt >> 8, 48, 5) | put(device.bits - 1, 4, 0)
 }
 
-/// Collection: V 63, zero [62:52], pe [51:16], ICID [15:0].
+/// §6.3.
 pub fn collection_entry(icid: u64, pe: u64) -> u64 {
     put(1, 63, 63) | put(pe, 51, 16) | put(icid, 15, 0)
 }
 
-/// Event: next [63:48], LPI [47:16], ICID [15:0].
+/// §6.4.
 pub fn event_entry(event: &Event, next: u64) -> u64 {
     put(next, 63, 48) | put(event.lpi, 47, 16) | put(event.icid, 15, 0)
 }
 
-/// Next is 0 at the last ID, else the distance to the following ID, at most the cap.
+/// §7.2.
 fn next_of(ids: &[u64], place: usize, cap: u64) -> u64 {
     match ids.get(place + 1) {
         Some(following) => (following - ids[place]).min(cap),
@@ -43,7 +44,7 @@ fn next_of(ids: &[u64], place: usize, cap: u64) -> u64 {
     }
 }
 
-/// A table as it must come out: each entry that is named, and zeros.
+/// §7.3 to §7.5: a table as it comes out, the entries that are named and zeros.
 fn table_bytes(entries: u64, named: &[(u64, u64)]) -> Vec<u8> {
     let mut bytes = vec![0; (entries * ENTRY) as usize];
     for (index, entry) in named {
@@ -54,7 +55,7 @@ fn table_bytes(entries: u64, named: &[(u64, u64)]) -> Vec<u8> {
 }
 
 impl Guest {
-    /// Save and restore: memory's length -14, then not ready -6, then running -16.
+    /// §7.1, §9.1.
     pub fn check_tables(&self, length: usize) -> Result<Tables, Refusal> {
         refuse_if(length as u128 != self.memory.end - self.memory.start, Refusal::Outside)?;
         let tables = self.placed()?;
@@ -62,6 +63,7 @@ impl Guest {
         Ok(tables)
     }
 
+    /// §7.3.
     fn saved_devices(&self) -> Vec<(u64, u64)> {
         let devices = &self.its.mapping.devices;
         let ids: Vec<u64> = devices.keys().copied().collect();
@@ -69,12 +71,13 @@ impl Guest {
         ids.iter().enumerate().map(entry).collect()
     }
 
-    /// Collections in rising ICID from entry 0.
+    /// §7.4.
     fn saved_collections(&self) -> Vec<(u64, u64)> {
         let rows = self.its.mapping.collections.iter();
         rows.enumerate().map(|(n, (icid, pe))| (n as u64, collection_entry(*icid, *pe))).collect()
     }
 
+    /// §7.5.
     fn saved_events(&self, id: u64) -> Vec<(u64, u64)> {
         let events = &self.its.mapping.events;
         let ids: Vec<u64> = events.keys().filter(|key| key.0 == id).map(|key| key.1).collect();
@@ -83,13 +86,13 @@ impl Guest {
         ids.iter().enumerate().map(entry).collect()
     }
 
-    /// Byte i of the lent memory is address start + i.
+    /// §6.1: where an address lies in lent memory.
     fn write(&self, memory: &mut [u8], address: u64, bytes: &[u8]) {
         let at = (address as u128 - self.memory.start) as usize;
         memory[at..at + bytes.len()].copy_from_slice(bytes);
     }
 
-    /// Writes the two tables and each mapped device's ITT whole, and no other byte. No further refusal.
+    /// §7.6: these tables and no other byte.
     pub fn save(&mut self, memory: &mut [u8]) -> Answer {
         let tables = self.check_tables(memory.len())?;
         let devices = table_bytes(tables.devices.entries(), &self.saved_devices());

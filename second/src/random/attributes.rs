@@ -86,7 +86,7 @@ fn distributor_attribute(pair: &mut Pair) -> u64 {
         14 => pair.rng.pick(&[0, 4, 0x0c, 0x14, 0x1fc, 0x200, 0x201, 0x27f, 0x280, 0x300, 0x10200, 0x10280, 0x10010]),
         _ => pair.rng.below(0x400),
     };
-    // A spoilt bit below 32 makes another offset; above, it must not matter.
+    // A spoilt bit below 32 makes another offset; above, it must not matter (§4.11).
     let offset = if pair.rng.one_in(20) { offset ^ 1 << pair.rng.below(32) } else { offset };
     let high = if pair.rng.one_in(4) { pair.rng.next() << 32 } else { 0 };
     high | offset

@@ -1,5 +1,6 @@
-//! Damaged states. The judge (`state/sound.rs`) says by the layout alone whether the bytes are sound. Where they are not, every
-//! call but set-up is -22; where they are, the model takes the guest over and goes on with it beside the library.
+//! Damaged states. The judge (`state/sound.rs`) says by the layout alone whether the bytes are sound. Where they are
+//! not, every call but set-up is -22 (§1.3); where they are, the model takes the guest over and goes on beside the
+//! library.
 
 use super::pair::Pair;
 use super::{calls, spoil, taken};
@@ -111,7 +112,7 @@ fn check(pair: &mut Pair, bytes: &[u8], left: &mut [u64; 2]) -> Result<(), Strin
     }
 }
 
-/// The library says the same of the bytes. Group 3 can be asked for at any time: its get has no -22 of its own.
+/// The library says the same of the bytes. A get of group 3 is asked (§3.15): it has no -22 of its own.
 pub fn agree(bytes: &[u8], first: Option<usize>) -> Result<(), String> {
     let call = Call::Get { device: Device::Vgic, group: 3, attribute: 0 };
     let (mut lent, mut complaints) = (vec![0x77; 4], Vec::new());
@@ -128,7 +129,7 @@ pub fn agree(bytes: &[u8], first: Option<usize>) -> Result<(), String> {
     complaints.into_iter().next().map_or(Ok(()), Err)
 }
 
-/// Every kind of call is -22, before anything else, an unknown name too; set-up alone looks at no byte.
+/// §1.3: every kind of call is -22, one with an unknown name too.
 pub fn all_refused(pair: &mut Pair, bytes: &[u8]) -> Result<u64, String> {
     let mut list = calls::each_kind(pair);
     pair.rng.shuffle(&mut list);
@@ -150,7 +151,7 @@ pub fn all_refused(pair: &mut Pair, bytes: &[u8]) -> Result<u64, String> {
     Ok(made)
 }
 
-/// Set-up tests the length only: it makes a fresh guest out of any bytes.
+/// §1.4: set-up makes a fresh guest out of any bytes.
 fn set_up_heals(pair: &mut Pair, bytes: &[u8]) -> Result<(), String> {
     let mut both = (Model::default(), Library::new(bytes));
     let setup = calls::good_setup(pair);

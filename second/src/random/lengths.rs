@@ -1,4 +1,4 @@
-//! A state of the wrong length: -14 from every call, set-up too, and no byte changes.
+//! §1.3, §1.4: a state of the wrong length is -14 from every call, set-up too, and no byte changes.
 
 use super::calls;
 use super::pair::Pair;

@@ -1,5 +1,5 @@
 //! Memory for restore: what a save left or a mapping written out entry by entry, then spoilt here and there.
-//! Each restore is also held against the declarative decision of what the bytes describe.
+//! Each restore (part 9) is also held against what the bytes describe (part 8).
 
 use super::its::lent_memory;
 use super::pair::Pair;
@@ -55,7 +55,7 @@ fn expect(pair: &Pair, memory: &[u8]) -> Option<Option<Mapping>> {
     Some(described(&pair.guest().world(tables, memory)))
 }
 
-/// Restore is refused if and only if nothing is described, and gives what is.
+/// §9.2: restore is accepted where something is described, and gives that; else it is refused.
 fn check(pair: &mut Pair, answer: i64, expected: Option<Option<Mapping>>, memory: &[u8]) {
     let Some(expected) = expected else { return };
     pair.tables[if answer == 0 { 1 } else { 2 }] += 1;
@@ -72,7 +72,7 @@ fn check(pair: &mut Pair, answer: i64, expected: Option<Option<Mapping>>, memory
     pair.differ(note);
 }
 
-/// The bytes describe no other mapping: not one that lacks a device, an event or a collection, or has another pe.
+/// §8.1: the bytes describe no other mapping, not one that lacks a device, an event or a collection, or has another pe.
 fn only_one(pair: &mut Pair, mapping: Mapping, memory: &[u8]) {
     let mut others = Vec::new();
     for id in mapping.devices.keys() {

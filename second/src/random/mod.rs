@@ -133,7 +133,7 @@ fn one(seed: u64, tell: bool, report: &mut Report) -> Pair {
     pair
 }
 
-/// Directed cases about the state's bytes, for the library alone: the model has no bytes.
+/// §1.3, §1.4: directed cases about the state's bytes, for the library alone: the model has none.
 pub fn states(report: &mut Report) {
     let mut pair = one(0, false, report);
     if !pair.stands() {
@@ -144,11 +144,11 @@ pub fn states(report: &mut Report) {
         Some(note) => report.fail(Kind::DirectedLibrary, &format!("directed library: {title}"), &note),
     };
     lengths::every_length(&mut pair);
-    note("a state of the wrong length is -14, before any other check", &mut pair);
+    note("§1.3, §1.4 a state of the wrong length is -14, and nothing is tested before", &mut pair);
     let live = std::mem::replace(&mut pair.library, Library::new(&vec![0xff; Library::len()]));
     lengths::every_length(&mut pair);
     pair.library = live;
-    note("a wrong length is -14 before bytes that break a rule are -22", &mut pair);
+    note("§1.3 the wrong length of a state that is not sound is -14", &mut pair);
     damage::plain_junk(&mut pair);
-    note("bytes that break a rule are -22, before any other check; set-up tests the length only", &mut pair);
+    note("§1.3, §1.4 a state that is not sound is -22, but set-up does not look at it", &mut pair);
 }

@@ -16,7 +16,7 @@ pub fn look(pair: &mut Pair, deep: bool) {
     let mut questions = frames(pair);
     questions.extend(marks(pair));
     if pair.guest().initialised {
-        // Groups 1 and 5 answer only when stopped.
+        // Groups 1 and 5 answer only when stopped (§4.10).
         questions.push((Call::Stop, vec![]));
         let (vcpus, banks) = extent(pair, deep);
         questions.extend(redist_bases(pair));

@@ -36,7 +36,7 @@ impl Pair {
     pub fn new(seed: u64, tell: bool) -> Pair {
         let mut rng = Rng::new(seed);
         let mut state = vec![0; Library::len()];
-        // Set-up must not care what the bytes held before.
+        // §1.4: set-up does not look at what the bytes hold.
         match rng.below(4) {
             0 => {}
             1 => state.fill(0xff),
@@ -125,8 +125,8 @@ impl Pair {
     }
 }
 
-/// One call on both; the answer and the lent bytes after it, or what differs. After a call that may have changed the state,
-/// its bytes must be sound and hold the model's guest, and those past the rows in use must stand.
+/// One call on both; the answer and the lent bytes after it, or what differs. After a call that may have changed the
+/// state, its bytes must be sound (§1.8) and hold the model's guest, and those behind the last rows must stand (§1.7).
 pub fn compare(model: &mut Model, library: &mut Library, call: &Call, lent: Vec<u8>) -> Result<(i64, Vec<u8>), String> {
     trace::asked(library.state.content(), call, &lent);
     let (mut ours, mut theirs) = (lent.clone(), lent);

@@ -23,7 +23,7 @@ pub fn go_on(seed: u64, guest: Guest, bytes: &[u8]) -> Result<u64, String> {
     ended(pair)
 }
 
-/// A guest that is saved and restored has the mapping that it had.
+/// §10.8: a guest that is saved and restored has the mapping that it had.
 #[cfg(feature = "restore")]
 fn save_and_restore(pair: &mut Pair) {
     let length = super::its::memory_length(pair);

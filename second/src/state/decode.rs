@@ -1,4 +1,4 @@
-//! Sound bytes as the model's own state: the model can take over any guest whose bytes it is shown.
+//! Sound bytes as the model's own state: the model can take over any guest whose bytes it is shown (§1.7, §1.8).
 
 use super::raw::{Bank, Base, Raw};
 use super::sound::{first_broken, CLAUSES};
@@ -33,16 +33,18 @@ fn guest(raw: &Raw) -> Guest {
     }
 }
 
+/// §3.1: a row of the VCPUs.
 fn vcpu(row: &super::raw::Vcpu) -> Vcpu {
     Vcpu { affinity: row.affinity as u32, irqs: irqs(&row.bank), status: row.status as u32 }
 }
 
-/// Bit n of a bank's three words is the bank's n-th interrupt.
+/// §4.1: bit n of the three words is the bank's interrupt n.
 fn irqs(bank: &Bank) -> [Irq; 32] {
     let of = |word: u64, n: usize| bit(word as u32, n);
     std::array::from_fn(|n| Irq { latch: of(bank.latch, n), level: of(bank.level, n), edge: of(bank.trigger, n) })
 }
 
+/// §3.5, §3.7: what stands. Of a base that is not set nothing is kept.
 fn frames(raw: &Raw) -> Frames {
     let set = |base: &Base| (base.set == 1).then_some(base.base);
     Frames {
@@ -53,6 +55,7 @@ fn frames(raw: &Raw) -> Frames {
     }
 }
 
+/// §5.2, §5.4.
 #[cfg(feature = "its")]
 fn its(raw: &Raw) -> Its {
     let table = |table: &super::raw::Table| Table { start: table.start, pages: table.pages };
@@ -60,6 +63,7 @@ fn its(raw: &Raw) -> Its {
     Its { initialised: raw.its_init == 1, tables: raw.placed().then_some(tables), mapping: mapping(raw) }
 }
 
+/// §5.1: the rows of the three sets.
 #[cfg(feature = "its")]
 fn mapping(raw: &Raw) -> Mapping {
     let (devices, events) = (raw.devices.rows.iter(), raw.events.rows.iter());
@@ -70,7 +74,7 @@ fn mapping(raw: &Raw) -> Mapping {
     }
 }
 
-/// Bytes that must be sound and hold this very guest; else what they hold that it has not.
+/// §1.8: after a call the bytes must be sound, and must hold this very guest; else what they hold that it has not.
 pub fn holds(bytes: &[u8], guest: &Guest) -> Result<(), String> {
     let held = take_over(bytes).map_err(|clause| format!("the state is not sound: it breaks \"{clause}\""))?;
     if held == *guest {

@@ -1,4 +1,4 @@
-//! Where each number lies in a state's bytes, as `LAYOUT.md` tells.
+//! Where each number lies in a state's bytes (§1.7), as `LAYOUT.md` tells.
 
 /// A number in the state, little endian: where it begins and how many bytes it has.
 #[derive(Clone, Copy, PartialEq, Eq, Debug)]
@@ -22,7 +22,7 @@ const fn word(at: usize) -> Field {
     Field { at, size: 8 }
 }
 
-/// The length of a state.
+/// §1.2: the length of a state.
 pub const LENGTH: usize = 11_400;
 
 pub const WIDTH: Field = word(0);
@@ -87,7 +87,7 @@ impl List {
         self.field(row, column).get(bytes)
     }
 
-    /// The rows in use, as far as there is room for them. The banks have no count of their own: the interrupts tell it.
+    /// The rows in use, as far as there is room for them. How many banks there are the interrupt count tells (§4.2).
     pub fn rows(&self, bytes: &[u8]) -> usize {
         let count = self.count.get(bytes);
         let count = if self.count == IRQS { (count / 32).saturating_sub(1) } else { count };
@@ -102,13 +102,13 @@ pub const DEVICES: List = List { count: word(2352), at: 2376, room: 32, sizes: &
 pub const COLLECTIONS: List = List { count: word(2360), at: 3144, room: 16, sizes: &[2, 2] };
 pub const EVENTS: List = List { count: word(2368), at: 3208, room: 1024, sizes: &[2, 2, 2, 2] };
 
-/// Four bytes after the banks that nothing reads.
+/// Four bytes behind the banks: no part of the state either (§1.7).
 const GAP: std::ops::Range<usize> = 2348..2352;
 
 pub const LISTS: [&List; 6] = [&REGIONS, &VCPUS, &BANKS, &DEVICES, &COLLECTIONS, &EVENTS];
 
-/// Whether the bytes past the rows in use are those that they were before the call: they are no part of the state. What set-up
-/// finds is no state either, so that only its own rows count.
+/// §1.7: whether the bytes behind the last rows are what they were before the call. What set-up finds is no state
+/// (§1.4), so that only the rows which it leaves count.
 pub fn idle_stand(before: &[u8], after: &[u8], set_up: bool) -> bool {
     let stand = |list: &List| {
         let used = list.rows(after).max(if set_up { 0 } else { list.rows(before) });

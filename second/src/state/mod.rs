@@ -1,4 +1,4 @@
-//! The state's bytes, from the layout alone (`LAYOUT.md`): whether they are sound, and the guest that they hold.
+//! The state's bytes (§1.7), from the layout alone (`LAYOUT.md`): whether they are sound (§1.8), and whose they are.
 
 pub mod decode;
 pub mod layout;

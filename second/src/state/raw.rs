@@ -1,4 +1,5 @@
-//! The numbers in a state's bytes as they stand there. Nothing is judged here; nothing past the rows in use is read.
+//! The numbers in a state's bytes as they stand there. Nothing is judged here, and nothing behind the last row is read
+//! (§1.7).
 
 use super::layout::{self, List, Marked};
 use crate::model::guest::Area;
@@ -131,7 +132,7 @@ impl Raw {
         1 << self.width.min(64)
     }
 
-    /// The three bases, each with the bytes that its frame takes.
+    /// The three bases, each with the bytes that its frame takes (§3.3, §3.6).
     pub fn bases(&self) -> [(&Base, u128); 3] {
         let redistributors = if self.init == 0 { 1 } else { self.vcpus.count as u128 };
         [(&self.distributor, 65_536), (&self.single, 131_072 * redistributors), (&self.its, 131_072)]
@@ -146,7 +147,7 @@ impl Raw {
         self.tables().iter().all(|table| table.placed != 0)
     }
 
-    /// The frames that stand: those of the bases that are set, and the regions.
+    /// The frames that stand (§3.4): those of the bases that are set, and the regions.
     pub fn frames(&self) -> Vec<Area> {
         let bases = self.bases();
         let set = bases.iter().filter(|(base, _)| base.set != 0);
@@ -157,23 +158,26 @@ impl Raw {
 }
 
 impl Region {
+    /// §3.7.
     pub fn area(&self) -> Area {
         Area::new(self.base, self.count as u128 * 131_072)
     }
 }
 
 impl Table {
+    /// §5.4.
     pub fn area(&self) -> Area {
         Area::new(self.start, self.pages as u128 * 4096)
     }
 }
 
 impl Device {
-    /// How many events the ITT has room for; more than 2^60 is no size of anything.
+    /// §5.10: how many events the ITT has room for. More than 2^60 is no size of anything.
     pub fn events(&self) -> u64 {
         1 << self.bits.min(60)
     }
 
+    /// §5.5.
     pub fn itt_area(&self) -> Area {
         Area::new(self.itt, 8 * self.events() as u128)
     }

@@ -1,4 +1,5 @@
--- `areas::overlaps` meets its contract: the difference of the starts against a size says whether the earlier area reaches the later one. Assumes nothing.
+-- `areas::overlaps` meets its contract: the difference of the starts against a size says whether the earlier area reaches the later
+-- one. Assumes nothing.
 use native.Mathlib.Omega.{arith}
 use Rattle.areas.proofs.Differences.{first-reaches, first-short, second-reaches, second-short}
 use borrow.Author.Needs.{needs}

@@ -1,4 +1,5 @@
--- `keeps::region_struck` meets its contract. The loop's invariant: what is left of the regions is struck where the whole is. Assumes nothing.
+-- `keeps::region_struck` meets its contract. The loop's invariant: what is left of the regions is struck where the whole is.
+-- Assumes nothing.
 use Prim.Native.Nat.{_≤_, _-_}
 use native.Mathlib.Omega.{arith}
 use mathlib.Core.Path.{_≡_, refl, sym, _∙_}

@@ -1,4 +1,5 @@
--- `keeps::regions_apart` meets its contract. The loop's invariant: what is left of the regions stands apart where the whole does. Assumes nothing.
+-- `keeps::regions_apart` meets its contract. The loop's invariant: what is left of the regions stands apart where the whole does.
+-- Assumes nothing.
 use Prim.Native.Nat.{_≤_, _-_}
 use native.Mathlib.Omega.{arith}
 use mathlib.Core.Path.{_≡_, refl, sym, _∙_}

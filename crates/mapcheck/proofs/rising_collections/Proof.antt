@@ -1,4 +1,5 @@
--- `mapcheck::rising_collections` meets its contract. The loop's invariant: what is left of the rows rises where the whole does. Assumes nothing.
+-- `mapcheck::rising_collections` meets its contract. The loop's invariant: what is left of the rows rises where the whole does.
+-- Assumes nothing.
 use Prim.Native.Nat.{_-_}
 use native.Mathlib.Omega.{arith}
 use mathlib.Core.Path.{ap}

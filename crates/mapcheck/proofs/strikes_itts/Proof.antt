@@ -1,4 +1,5 @@
--- `mapcheck::strikes_itts` meets its contract. The loop's invariant: what is left of the ITTs is struck where the whole is. Assumes nothing.
+-- `mapcheck::strikes_itts` meets its contract. The loop's invariant: what is left of the ITTs is struck where the whole is.
+-- Assumes nothing.
 use Prim.Native.Nat.{_-_}
 use native.Mathlib.Omega.{arith}
 use mathlib.Core.Path.{ap, _∙_}

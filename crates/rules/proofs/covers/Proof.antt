@@ -1,4 +1,5 @@
--- `rules::covers` meets its contract. The loop's invariant: what is left of the number fits into what is left of the regions where the whole fits. Assumes nothing.
+-- `rules::covers` meets its contract. The loop's invariant: what is left of the number fits into what is left of the regions where the
+-- whole fits. Assumes nothing.
 use Prim.Native.Nat.{_≤_, _-_}
 use native.Mathlib.Omega.{arith}
 use mathlib.Core.Path.{_≡_, refl, sym, _∙_}

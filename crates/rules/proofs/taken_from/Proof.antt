@@ -1,4 +1,5 @@
--- `rules::taken_from` meets its contract. The loop's invariant: what is left of the VCPUs has the affinity where the whole has. Assumes nothing.
+-- `rules::taken_from` meets its contract. The loop's invariant: what is left of the VCPUs has the affinity where the whole has. Assumes
+-- nothing.
 use Prim.Native.Nat.{_≤_, _-_}
 use native.Mathlib.Omega.{arith}
 use mathlib.Core.Path.{_≡_, refl, sym, _∙_}

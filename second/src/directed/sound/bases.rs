@@ -1,4 +1,4 @@
-//! The sound states from which the cases start: made by calls, on the library and the model at once.
+//! The sound states (§1.8) from which the cases start: made by calls, on the library and the model at once.
 
 use crate::directed::case::Case;
 use crate::model::Model;
@@ -18,7 +18,7 @@ pub enum Base {
     Placed,
     /// Placed with two devices, two collections and three events.
     Mapped,
-    /// Every limit reached: 64 VCPUs in 32 regions, 32 devices, 16 collections, 1,024 events.
+    /// Every limit of §1.6 is reached.
     Full,
 }
 

@@ -1,4 +1,4 @@
-//! The guest's own numbers, its marks, VCPUs and banks.
+//! §1.9, §1.12: the guest's own numbers, its marks, VCPUs and banks.
 
 use super::bases::{Base, LENGTH, MEMORY, TOP};
 use super::{Put, Row};
@@ -15,6 +15,7 @@ const TRIGGER: usize = 3;
 const VCPU_STATUS: usize = 4;
 
 pub const ROWS: &[Row] = &[
+    // §1.9: as §1.4 asks.
     Row("width least", Fresh, &[(WIDTH, 35)], &[(WIDTH, 36)]),
     Row("width most", Fresh, &[(WIDTH, 53)], &[(WIDTH, 52)]),
     Row("width most", Fresh, &[(WIDTH, (1 << 32) + 40)], &[(WIDTH, 41)]),
@@ -27,6 +28,7 @@ pub const ROWS: &[Row] = &[
     Row("memory end", Fresh, &[(START, TOP - LENGTH + 0x1000)], &[(START, TOP - LENGTH)]),
     Row("memory end", Fresh, &[(START, 0u64.wrapping_sub(LENGTH))], &[(START, 0)]),
     Row("memory end", Fresh, &[(WIDTH, 36), (START, 1 << 36)], &[(WIDTH, 37), (START, 1 << 36)]),
+    // §1.9: marks.
     Row("marks", Single, &[(INIT, 2)], &[(INIT, 1)]),
     Row("marks", Single, &[(INIT, 1 + (1 << 32))], &[(INIT, 0)]),
     Row("marks", Single, &[(RUNNING, 2)], &[(RUNNING, 1)]),
@@ -36,8 +38,10 @@ pub const ROWS: &[Row] = &[
     Row("marks", Early, &[(DISTRIBUTOR.mark, 2)], &[(DISTRIBUTOR.mark, 1)]),
     Row("marks", Early, &[(SINGLE.mark, 3)], &[(SINGLE.mark, 1)]),
     Row("marks", Early, &[(ITS.mark, 1 << 63)], &[(ITS.mark, 1)]),
+    // §1.9: running.
     Row("running", Early, &[(RUNNING, 1)], &[(RUNNING, 1), (INIT, 1)]),
     Row("running", Fresh, &[(RUNNING, 1)], &[(RUNNING, 0)]),
+    // §1.9: the interrupt count, as in §3.14.
     Row("count least", Fresh, &[(IRQS_SET, 1), (IRQS, 32)], &[(IRQS_SET, 1), (IRQS, 64)]),
     Row("count least", Fresh, &[(IRQS_SET, 1), (IRQS, 0)], &[(IRQS_SET, 1), (IRQS, 96)]),
     Row("count most", Full, &[(IRQS, 1056)], &[(IRQS, 1024)]),
@@ -46,30 +50,34 @@ pub const ROWS: &[Row] = &[
     Row("count step", Full, &[(IRQS, 1023)], &[(IRQS, 992)]),
     Row("count unset", Fresh, &[(IRQS, 224)], &[(IRQS, 224), (IRQS_SET, 1)]),
     Row("count unset", Single, &[(IRQS, 64)], &[(IRQS, 256)]),
+    // §1.9: STATUSR.
     Row("distributor status", Single, &[(STATUS, 16)], &[(STATUS, 15)]),
     Row("distributor status", Early, &[(STATUS, 1 << 32)], &[(STATUS, 8)]),
+    // §1.9: within §1.6.
     Row("VCPUs most", Full, &[(VCPUS.count, 65)], &[(VCPUS.count, 64)]),
+    // §1.12.
     Row("affinities", Early, &[(VCPUS.field(1, AFFINITY), 0)], &[(VCPUS.field(1, AFFINITY), 1 << 31)]),
     Row("affinities", Full, &[(VCPUS.field(0, AFFINITY), 63)], &[(VCPUS.field(0, AFFINITY), 64)]),
     Row("SGI trigger", Single, &[(VCPUS.field(1, TRIGGER), 0x7fff)], &[(VCPUS.field(1, TRIGGER), 0xffff)]),
     Row("SGI trigger", Early, &[(VCPUS.field(0, TRIGGER), 0xffff_fffe)], &[(VCPUS.field(0, TRIGGER), 0xffff_ffff)]),
     Row("SGI level", Single, &[(VCPUS.field(1, LEVEL), 0x8000)], &[(VCPUS.field(1, LEVEL), 0x1_0000)]),
     Row("SGI level", Early, &[(VCPUS.field(0, LEVEL), 0xffff_0001)], &[(VCPUS.field(0, LEVEL), 0xffff_0000)]),
+    // §1.9: STATUSR.
     Row("VCPU status", Single, &[(VCPUS.field(1, VCPU_STATUS), 16)], &[(VCPUS.field(1, VCPU_STATUS), 15)]),
     Row("VCPU status", Early, &[(VCPUS.field(0, VCPU_STATUS), 1 << 31)], &[(VCPUS.field(0, VCPU_STATUS), 1)]),
 ];
 
-/// Changes that no rule is about.
+/// Changes that no rule forbids.
 pub const FREE: &[(&str, Base, &[Put])] = &[
-    ("latches of SGIs may be up", Single, &[(VCPUS.field(0, LATCH), 0xffff_ffff)]),
-    ("banks are not fresh before INIT", Early, &[(VCPUS.field(1, LATCH), 0x5555), (BANKS.field(6, 1), 0xff)]),
-    ("STATUSRs are not fresh before INIT", Early, &[(STATUS, 3), (VCPUS.field(1, VCPU_STATUS), 5)]),
-    ("a shared bank is any three words", Single, &[(BANKS.field(0, 0), u64::MAX), (BANKS.field(0, 2), 0x1234)]),
-    ("a VCPU past the last is not read", Single, &[(VCPUS.field(2, AFFINITY), 0), (VCPUS.field(2, LEVEL), 1)]),
-    ("a region past the last is not read", Single, &[(REGIONS.field(0, 0), 1), (REGIONS.field(31, 1), u64::MAX)]),
-    ("a bank past the last is not read", Single, &[(BANKS.field(7, 0), u64::MAX), (BANKS.field(30, 2), u64::MAX)]),
-    ("the INIT mark alone is put back", Single, &[(INIT, 0)]),
-    ("a table's mark, start and pages are put back", Placed, &TABLES_GONE),
+    ("§1.12 latches of SGIs may be up", Single, &[(VCPUS.field(0, LATCH), 0xffff_ffff)]),
+    ("§1.8 banks are not fresh before INIT", Early, &[(VCPUS.field(1, LATCH), 0x5555), (BANKS.field(6, 1), 0xff)]),
+    ("§1.9 STATUSRs are not fresh before INIT", Early, &[(STATUS, 3), (VCPUS.field(1, VCPU_STATUS), 5)]),
+    ("§1.8 a shared bank is any three words", Single, &[(BANKS.field(0, 0), u64::MAX), (BANKS.field(0, 2), 0x1234)]),
+    ("§1.7 a VCPU behind the last", Single, &[(VCPUS.field(2, AFFINITY), 0), (VCPUS.field(2, LEVEL), 1)]),
+    ("§1.7 a region behind the last", Single, &[(REGIONS.field(0, 0), 1), (REGIONS.field(31, 1), u64::MAX)]),
+    ("§1.7 a bank behind the last", Single, &[(BANKS.field(7, 0), u64::MAX), (BANKS.field(30, 2), u64::MAX)]),
+    ("§1.11 the INIT mark alone is put back", Single, &[(INIT, 0)]),
+    ("§1.13 both tables are put back", Placed, &TABLES_GONE),
 ];
 
 const TABLES_GONE: [Put; 6] = [

@@ -1,5 +1,6 @@
-//! Broken bytes are -22 whatever the call: for each clause of `LAYOUT.md` states that break it and no other,
-//! which every call must refuse, and beside each its nearest sound neighbour, which must be taken.
+//! §1.3, §1.8: a state that is not sound is -22 whatever the call. For each clause of `LAYOUT.md` there are states that
+//! break it and no other, which every call must refuse and leave, and beside each its nearest sound neighbour, which
+//! must be taken. Over the rows stand the paragraphs that their clauses are from.
 
 mod bases;
 mod frames;
@@ -25,7 +26,7 @@ fn rows() -> impl Iterator<Item = &'static Row> {
     guest::ROWS.iter().chain(frames::ROWS).chain(its::ROWS)
 }
 
-/// Sound states in which bytes that nothing reads are changed, or banks that no call has changed yet.
+/// §1.7, §1.8: sound states in which bytes that nothing reads are changed, or what no rule is about.
 fn free() -> impl Iterator<Item = &'static (&'static str, Base, &'static [Put])> {
     guest::FREE.iter().chain(its::FREE)
 }
@@ -75,18 +76,18 @@ fn sound(title: &str, bytes: &[u8], report: &mut Report) {
 
 fn run_row(n: usize, row: &Row, from: &[u8], report: &mut Report) {
     let Row(clause, base, wrong, right) = row;
-    let title = format!("soundness case {n}, \"{clause}\" broken in {base:?} by {wrong:x?}");
+    let title = format!("§1.8 case {n}, \"{clause}\" broken in {base:?} by {wrong:x?}");
     let bytes = changed(from, wrong);
     note(report, Kind::DirectedModel, &format!("directed model: {title}"), judged(&bytes, &[clause]));
     note(report, Kind::DirectedLibrary, &format!("directed library: {title}"), refused(from, &bytes));
-    sound(&format!("soundness case {n}, \"{clause}\" kept in {base:?} by {right:x?}"), &changed(from, right), report);
+    sound(&format!("§1.8 case {n}, \"{clause}\" kept in {base:?} by {right:x?}"), &changed(from, right), report);
 }
 
 /// A case stands for each clause.
 fn check_cases(report: &mut Report) {
     for (clause, _) in CLAUSES {
         let found = if rows().any(|row| row.0 == *clause) { Ok(1) } else { Err("no case breaks it".into()) };
-        note(report, Kind::DirectedModel, &format!("directed model: the clause \"{clause}\""), found);
+        note(report, Kind::DirectedModel, &format!("directed model: §1.8 the clause \"{clause}\""), found);
     }
 }
 
@@ -95,10 +96,10 @@ pub fn run(report: &mut Report) {
     let mut states = Vec::new();
     for base in BASES {
         let built = bases::build(base);
-        let title = format!("directed library: the sound state {base:?}");
+        let title = format!("directed library: §1.8 the sound state {base:?}");
         note(report, Kind::DirectedLibrary, &title, built.as_ref().map(|_| 1).map_err(String::clone));
         let Ok(bytes) = built else { return };
-        sound(&format!("each kind of call leaves the sound state {base:?} sound"), &bytes, report);
+        sound(&format!("§1.8 each kind of call leaves the sound state {base:?} sound"), &bytes, report);
         states.push(bytes);
     }
     for (n, row) in rows().enumerate() {
@@ -110,7 +111,7 @@ pub fn run(report: &mut Report) {
     set_ups(report);
 }
 
-/// A fresh guest's bytes are sound and hold the fresh guest, at each limit of set-up and whatever they held before.
+/// §1.4, §1.5: a fresh guest's bytes are sound and hold it, at each bound of set-up and whatever they held before.
 fn set_ups(report: &mut Report) {
     let top = |width: u64, length: u64| (1u64 << width) - length;
     let limits = [(36, 0, 4096), (36, top(36, 1 << 30), 1 << 30), (52, top(52, 4096), 4096), (52, 0, 1 << 30)];
@@ -119,8 +120,8 @@ fn set_ups(report: &mut Report) {
             let (mut model, mut library) = (Model::default(), Library::new(&vec![before; Library::len()]));
             let call = crate::call::Call::Setup { width, start, length };
             let made = random::compare(&mut model, &mut library, &call, vec![]).map(|_| 1);
-            note(report, Kind::DirectedLibrary, &format!("directed library: fresh bytes of {call:x?}"), made);
-            sound(&format!("the fresh bytes of {call:x?}"), library.state.content(), report);
+            note(report, Kind::DirectedLibrary, &format!("directed library: §1.5 fresh bytes of {call:x?}"), made);
+            sound(&format!("§1.5 the fresh bytes of {call:x?}"), library.state.content(), report);
         }
     }
 }
