@@ -93,7 +93,6 @@ int64_t plain_lookup(const uint8_t *state, size_t state_len, uint64_t device, ui
 /* ---- tables in memory */
 
 #define DEVICE_CAP UINT64_C(0x3fff)
-#define EVENT_CAP UINT64_C(0xffff)
 #define VALID (UINT64_C(1) << 63)
 
 /* 0, or the refusal of save and restore before any table is touched */
@@ -132,14 +131,6 @@ static void save_collections(const uint8_t *map, uint8_t *table)
     }
 }
 
-/* §7.2: how far the following ID is away, as far as the field has room; 0 where none follows */
-static uint64_t next_field(bool last, uint64_t distance, uint64_t cap)
-{
-    if (last)
-        return 0;
-    return distance < cap ? distance : cap;
-}
-
 static void save_devices(const uint8_t *map, uint8_t *table)
 {
     size_t n = (size_t)get64(map + AT_DEVICE_COUNT);
@@ -147,7 +138,7 @@ static void save_devices(const uint8_t *map, uint8_t *table)
         const uint8_t *row = device_row(map, i);
         bool last = i + 1 == n;
         uint64_t distance = last ? 0 : get64(row + DEVICE_BYTES) - get64(row);
-        uint64_t next = next_field(last, distance, DEVICE_CAP);
+        uint64_t next = distance < DEVICE_CAP ? distance : DEVICE_CAP;
         uint64_t word = VALID | next << 49 | get64(row + 8) >> 8 << 5 | (get64(row + 16) - 1);
         put64(table + get64(row) * ENTRY_BYTES, word);
     }
@@ -160,8 +151,7 @@ static size_t save_events(const uint8_t *map, uint64_t device, size_t i, uint8_t
     for (; i < n && get16(event_row(map, i)) == device; i++) {
         const uint8_t *row = event_row(map, i);
         bool last = i + 1 == n || get16(row + EVENT_BYTES) != device;
-        uint64_t distance = last ? 0 : get16(row + EVENT_BYTES + 2) - get16(row + 2);
-        uint64_t next = next_field(last, distance, EVENT_CAP);
+        uint64_t next = last ? 0 : get16(row + EVENT_BYTES + 2) - get16(row + 2);
         put64(table + get16(row + 2) * ENTRY_BYTES, next << 48 | get16(row + 4) << 16 | get16(row + 6));
     }
     return i;
@@ -198,12 +188,13 @@ int64_t plain_save(const uint8_t *state, size_t state_len, uint8_t *memory, size
 
 /* ---- restore */
 
-/* A device table or an ITT: an entry is there if it has a bit of `valid`; its next is the field of `cap` at `shift`. */
+/* A device table or an ITT: an entry is there if it has a bit of `valid`; its next is the field of `mask` at `shift`. */
 struct chain {
     const uint8_t *table;
     size_t entries;
-    uint64_t valid, cap;
+    uint64_t valid, mask;
     unsigned shift;
+    bool capped;
 };
 
 enum step { LAST, ONWARD, BROKEN };
@@ -224,16 +215,16 @@ static size_t first_from(const struct chain *c, size_t i)
     return i;
 }
 
-/* Where the entry at *i leads. At the cap the following ID may lie further on than the landing. */
+/* Where the entry at *i leads. At a device table's cap the following ID may lie further on than the landing. */
 static enum step follow(const struct chain *c, size_t *i)
 {
-    uint64_t next = entry_at(c, *i) >> c->shift & c->cap;
+    uint64_t next = entry_at(c, *i) >> c->shift & c->mask;
     if (next == 0)
         return LAST;
     if (next >= c->entries - *i)
         return BROKEN;
     *i += (size_t)next;
-    if (next == c->cap)
+    if (c->capped && next == DEVICE_CAP)
         *i = first_from(c, *i);
     return *i < c->entries && (entry_at(c, *i) & c->valid) != 0 ? ONWARD : BROKEN;
 }
@@ -349,8 +340,9 @@ static int64_t read_device(struct reading *r, uint64_t id, uint64_t word)
         .table = r->memory + memory_index(r->state, itt),
         .entries = (size_t)1 << bits,
         .valid = UINT64_C(0xffffffff) << 16,
-        .cap = EVENT_CAP,
+        .mask = UINT64_C(0xffff),
         .shift = 48,
+        .capped = false,
     };
     return read_events(r, id, &events);
 }
@@ -361,8 +353,9 @@ static int64_t read_devices(struct reading *r)
         .table = r->memory + memory_index(r->state, get64(r->state + AT_DEVICE_TABLE + 8)),
         .entries = table_bytes(r->state + AT_DEVICE_TABLE) / ENTRY_BYTES,
         .valid = VALID,
-        .cap = DEVICE_CAP,
+        .mask = DEVICE_CAP,
         .shift = 49,
+        .capped = true,
     };
     enum step step = ONWARD;
     size_t i = first_from(&devices, 0);

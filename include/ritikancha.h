@@ -352,8 +352,7 @@ int64_t rk_its_lookup(const uint8_t *state, size_t state_len, uint64_t device, u
  *   collection  V [63], ICID [15:0], pe [51:16], zero [62:52]; blank if V is clear
  *   event       ICID [15:0], LPI [47:16], next [63:48]; blank if the LPI is 0
  * An entry that is not blank is valid. A device's entry stands at its ID, an event's at its number in the device's ITT. next is how far the
- * following ID is away, 0 where none follows (§7.2); it is cut to 16,383 in the device table and to 65,535 in an ITT. Collections follow each
- * other from entry 0.
+ * following ID is away, 0 where none follows (§7.2); in the device table it is cut to 16,383. Collections follow each other from entry 0.
  *
  * A RESTORE FINDS NONSENSE, NOT DAMAGE (§9.8). The format has no checksum. Bytes that were changed on the way are refused where they no longer
  * describe a mapping; where they still describe one, another one, that is restored and the answer is 0. A first device whose V bit was
@@ -388,7 +387,7 @@ int64_t rk_its_save(const uint8_t *state, size_t state_len, uint8_t *memory, siz
  *   -RK_EINVAL  its ITT overlaps one of the two tables or the ITT of a device read before
  * The device's events rising, by their next too (§9.7):
  *   -RK_EINVAL  LPI below 8,192 or above 65,535
- *   -RK_EINVAL  next, as for devices, with 65,535 in the place of 16,383
+ *   -RK_EINVAL  next leads past the ITT or to a blank entry
  *   -RK_EINVAL  no collection with this ICID was read
  *   -RK_ENOMEM  a 1,025th event
  */

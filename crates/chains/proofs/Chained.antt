@@ -5,7 +5,7 @@ use Prim.Native.Nat.{ℕ, zero, suc, _+_, _-_, _≤_, _<_}
 use native.Mathlib.Omega.{arith}
 use Rattle.chains.specs.declared.Next.{Next}
 use Rattle.chains.specs.declared.Next.the-variants.{Last, At, Bad}
-use Rattle.chains.specs.Slots.{Slots, following, Path, final, broken, onto, onward, path, whole, Links}
+use Rattle.chains.specs.Slots.{Slots, capped, following, Path, final, broken, onto, onward, path, whole, Links}
 use Rattle.chains.proofs.Way.{leads, led, ends, ended}
 
 abbrev head : Path → ℕ
@@ -38,7 +38,7 @@ whole-same i i′ (j ∷ js) (k ∷ ks) e =
     let r1 = r .1 in
     (cc, cc)
 
-module _ (T : Slots) (pos : 0 < T .cap) where
+module _ (T : Slots) (pos : 0 < capped (T .cap) 1) where
   -- the links give the path
   pub path-is : (js : List ℕ) (fuel i : ℕ) → i < T .size → T .size ≤ i + fuel → Links T i js → path T fuel i ≡ whole i js
   unfolding path
@@ -48,7 +48,7 @@ module _ (T : Slots) (pos : 0 < T .cap) where
       rw (leads T pos i j (l .0)) (ap (onto i) (path-is js fuel j (l .0 .inside) (omega (arith, l .0 .rises)) (l .1)))
 
   -- the path gives the links
-  module _ (small : (i : ℕ) → T .next i ≤ T .cap) where
+  module _ (small : (i : ℕ) → capped (T .cap) (T .next i) ≡ T .next i) where
     step-case : (fuel i : ℕ) (js : List ℕ) → ((j : ℕ) (ks : List ℕ) → path T fuel j ≡ whole j ks → Links T j ks)
         → (n : Next) → following T i ≡ n → onward i (path T fuel) n ≡ whole i js → Links T i js
     step-case fuel i [] ih Last e p = ends T pos i e

@@ -1,38 +1,59 @@
 -- Where a slot leads, both ways. Assumes nothing.
-use mathlib.Core.Path.{_≡_, refl, _∙_}
+use mathlib.Core.Path.{_≡_, refl, sym, _∙_}
 use mathlib.Core.Bool.{Bool, true, false}
 use mathlib.Core.Logic.{_⊎_, inl, inr, ⊎-elim}
-use Prim.Native.Nat.{ℕ, _+_, _-_, _≤_, _<_}
+use Prim.Native.Nat.{ℕ, _+_, _-_, _≤_, _<_, min}
 use native.Mathlib.Omega.{arith}
 use lib.Dec.{ltb, leb, eqb}
-use borrow.Author.Tests.{lt-ltb, le-ltb, le-leb, lt-leb, eq-eqb, ne-eqb, ltb-true, ltb-false, leb-false, eqb-true, eqb-false}
-use Rattle.chains.proofs.Scan.{lt-or-ge}
+use borrow.Author.Tests.{lt-ltb, le-leb, lt-leb, eq-eqb, ne-eqb, ltb-true, ltb-false, leb-false, eqb-true, eqb-false}
 use Rattle.lists.specs.Rows.{choose}
 use Rattle.chains.specs.declared.Next.the-variants.{Last, At, Bad}
-use Rattle.chains.specs.Slots.{Slots, firstFrom, following, Blank, Link}
+use Rattle.chains.specs.Slots.{Cap, atMost, uncapped, capped, exact, Slots, firstFrom, following, Blank, Link}
 use Rattle.chains.proofs.Scan.{Scanned, first-says, found-at}
 
 pub choose-cases {ℓ} : {A : Type ℓ} (b : Bool) {x y z : A} → choose b x y ≡ z → ((b ≡ true) × (x ≡ z)) ⊎ ((b ≡ false) × (y ≡ z))
 choose-cases true e = inl (refl, e)
 choose-cases false e = inr (refl, e)
 
-module _ (T : Slots) (pos : 0 < T .cap) where
+-- what an entry holds, and the distances that it may stand for
+pub capped-le : (c : Cap) (d : ℕ) → capped c d ≤ d
+capped-le (atMost n) d = omega arith
+capped-le uncapped d = omega arith
+
+pub capped-pos : (c : Cap) → 0 < capped c 1 → (d : ℕ) → 0 < d → 0 < capped c d
+capped-pos (atMost n) p d h = omega arith
+capped-pos uncapped p d h = omega arith
+
+capped-exact : (c : Cap) (d : ℕ) → exact c (capped c d) ≡ true → capped c d ≡ d
+capped-exact (atMost n) d e = let l = ltb-true (min d n) n e in omega arith
+capped-exact uncapped d e = refl
+
+capped-far : (c : Cap) (n d : ℕ) → capped c n ≡ n → exact c n ≡ false → n ≤ d → n ≡ capped c d
+capped-far (atMost m) n d s e h = let l = ltb-false n m e in omega arith
+capped-far uncapped n d s e h = let z : _≡_ {A = ℕ} 0 1 = cc in absurd (omega arith)
+
+module _ (T : Slots) (pos : 0 < capped (T .cap) 1) where
   -- `Link` (§8.4, §8.5) and where a slot leads (§9.6) are the same, where no next is above the cap
   pub leads : (i j : ℕ) → Link T i j → following T i ≡ At j
   unfolding following
-  leads i j l = ⊎-elim
-      (λ (p : j - i < T .cap).
-          let m : T .next i ≡ j - i = l .next ∙ omega arith in
-          let s : i + (j - i) ≡ j = omega (arith, l .rises) in
-          rw (m, s, ne-eqb (j - i) 0 (omega (arith, l .rises)), lt-leb (T .size) j (l .inside), lt-ltb (j - i) (T .cap) p, l .valid))
-      (λ (p : T .cap ≤ j - i).
-          let m : T .next i ≡ T .cap = l .next ∙ omega arith in
-          let b : Blank T (i + T .cap) j = λ k x y. l .gap (omega arith) k x y in
-          let f : firstFrom T (i + T .cap) ≡ j = found-at T (i + T .cap) j (omega (arith, l .rises)) (l .inside) b (l .valid) in
-          rw (m, f, ne-eqb (T .cap) 0 (omega arith), lt-leb (T .size) (i + T .cap) (omega (arith, l .inside, l .rises)), le-ltb (T .cap) (T .cap) (omega arith), lt-ltb j (T .size) (l .inside)))
-      (lt-or-ge (j - i) (T .cap))
+  leads i j l =
+      let n = T .next i in
+      let up = l .rises in
+      let some : 0 < n = rw (l .next) (capped-pos (T .cap) pos (j - i) (omega arith)) in
+      let most : n ≤ j - i = rw (l .next) (capped-le (T .cap) (j - i)) in
+      by (exact (T .cap) n) refl some most
+    where
+      by : (b : Bool) → exact (T .cap) (T .next i) ≡ b → 0 < T .next i → T .next i ≤ j - i → following T i ≡ At j
+      by true e some most =
+          let m : T .next i ≡ j - i = l .next ∙ capped-exact (T .cap) (j - i) (rw (l .next) at e) in
+          let s : i + T .next i ≡ j = omega (arith, l .rises) in
+          rw (e, s, ne-eqb (T .next i) 0 (omega arith), lt-leb (T .size) j (l .inside), l .valid)
+      by false e some most =
+          let b : Blank T (i + T .next i) j = λ k x y. l .gap (omega arith) k x y in
+          let f : firstFrom T (i + T .next i) ≡ j = found-at T (i + T .next i) j (omega (arith, l .rises)) (l .inside) b (l .valid) in
+          rw (e, f, ne-eqb (T .next i) 0 (omega arith), lt-leb (T .size) (i + T .next i) (omega (arith, l .inside, l .rises)), lt-ltb j (T .size) (l .inside))
 
-  pub led : (i j : ℕ) → T .next i ≤ T .cap → following T i ≡ At j → Link T i j
+  pub led : (i j : ℕ) → capped (T .cap) (T .next i) ≡ T .next i → following T i ≡ At j → Link T i j
   unfolding following
   led i j b e = ⊎-elim
       (λ p. let z : _≡_ {A = ℕ} 0 1 = cc in absurd (omega arith))
@@ -44,8 +65,8 @@ module _ (T : Slots) (pos : 0 < T .cap) where
           let x : j ≡ i + T .next i = cc in
           let n = eqb-false (T .next i) 0 (p .0) in
           let q′ = leb-false (T .size) (i + T .next i) (q .0) in
-          let r′ = ltb-true (T .next i) (T .cap) (r .0) in
-          record { rises = omega arith; inside = omega arith; valid = rw x (v .0); next = omega arith; gap = λ g. absurd (omega arith) })
+          let w : j - i ≡ T .next i = omega arith in
+          record { rises = omega arith; inside = omega arith; valid = rw x (v .0); next = rw w (sym b); gap = λ g. absurd (omega arith) })
       (λ v. let z : _≡_ {A = ℕ} 0 1 = cc in absurd (omega arith))
       (choose-cases (T .valid (i + T .next i)) (r .1)))
       (λ r. ⊎-elim
@@ -53,15 +74,15 @@ module _ (T : Slots) (pos : 0 < T .cap) where
           let x : firstFrom T (i + T .next i) ≡ j = cc in
           let n = eqb-false (T .next i) 0 (p .0) in
           let q′ = leb-false (T .size) (i + T .next i) (q .0) in
-          let c : T .next i ≡ T .cap = omega (arith, ltb-false (T .next i) (T .cap) (r .0)) in
           let v′ : j < T .size = rw x at (ltb-true (firstFrom T (i + T .next i)) (T .size) (v .0)) in
           let s : Scanned (T .valid) (i + T .next i) (T .size) j = rw x at (first-says T (i + T .next i) (omega arith)) in
           record {
-            rises = omega (arith, s .from); inside = v′; valid = s .hit v′; next = omega (arith, s .from);
-            gap = λ g k y z. s .before k (omega arith) z })
+            rises = omega (arith, s .from); inside = v′; valid = s .hit v′;
+            next = capped-far (T .cap) (T .next i) (j - i) b (r .0) (omega (arith, s .from));
+            gap = λ g. s .before })
       (λ v. let z : _≡_ {A = ℕ} 0 1 = cc in absurd (omega arith))
       (choose-cases (ltb (firstFrom T (i + T .next i)) (T .size)) (r .1)))
-      (choose-cases (ltb (T .next i) (T .cap)) (q .1)))
+      (choose-cases (exact (T .cap) (T .next i)) (q .1)))
       (choose-cases (leb (T .size) (i + T .next i)) (p .1)))
       (choose-cases (eqb (T .next i) 0) e)
 
@@ -74,7 +95,7 @@ module _ (T : Slots) (pos : 0 < T .cap) where
       (λ q. ⊎-elim
       (λ r. ⊎-elim (λ v. let z : _≡_ {A = ℕ} 0 1 = cc in absurd (omega arith)) (λ v. let z : _≡_ {A = ℕ} 0 1 = cc in absurd (omega arith)) (choose-cases (T .valid (i + T .next i)) (r .1)))
       (λ r. ⊎-elim (λ v. let z : _≡_ {A = ℕ} 0 1 = cc in absurd (omega arith)) (λ v. let z : _≡_ {A = ℕ} 0 1 = cc in absurd (omega arith)) (choose-cases (ltb (firstFrom T (i + T .next i)) (T .size)) (r .1)))
-      (choose-cases (ltb (T .next i) (T .cap)) (q .1)))
+      (choose-cases (exact (T .cap) (T .next i)) (q .1)))
       (choose-cases (leb (T .size) (i + T .next i)) (p .1)))
       (choose-cases (eqb (T .next i) 0) e)
 
@@ -94,10 +115,10 @@ module _ (T : Slots) (i d : ℕ) (e : d ≡ T .next i) where
     way-out h = rw (← e, ne-eqb d 0 n, le-leb (T .size) (i + d) h)
 
     module _ (h : i + d < T .size) where
-      pub way-near : d < T .cap → choose (T .valid (i + d)) (At (i + d)) Bad ≡ following T i
+      pub way-near : exact (T .cap) d ≡ true → choose (T .valid (i + d)) (At (i + d)) Bad ≡ following T i
       unfolding following
-      way-near c = rw (← e, ne-eqb d 0 n, lt-leb (T .size) (i + d) h, lt-ltb d (T .cap) c)
+      way-near c = rw (← e, ne-eqb d 0 n, lt-leb (T .size) (i + d) h, c)
 
-      pub way-far : T .cap ≤ d → choose (ltb (firstFrom T (i + d)) (T .size)) (At (firstFrom T (i + d))) Bad ≡ following T i
+      pub way-far : exact (T .cap) d ≡ false → choose (ltb (firstFrom T (i + d)) (T .size)) (At (firstFrom T (i + d))) Bad ≡ following T i
       unfolding following
-      way-far c = rw (← e, ne-eqb d 0 n, lt-leb (T .size) (i + d) h, le-ltb d (T .cap) c)
+      way-far c = rw (← e, ne-eqb d 0 n, lt-leb (T .size) (i + d) h, c)

@@ -9,10 +9,25 @@ use Rattle.lists.specs.Rows.{choose}
 use Rattle.chains.specs.declared.Next.{Next}
 use Rattle.chains.specs.declared.Next.the-variants.{Last, At, Bad}
 
+-- §7.2: the cap of a table: the largest distance that its entries hold, and it stands for every larger one too; or none
+pub data Cap : Type 0 where
+  atMost : ℕ → Cap
+  uncapped : Cap
+
+-- §7.2: what an entry holds for a distance
+abbrev pub capped : Cap → ℕ → ℕ
+capped (atMost n) d = min d n
+capped uncapped d = d
+
+-- §9.6: whether a next is the distance itself, and stands for no larger one
+abbrev pub exact : Cap → ℕ → Bool
+exact (atMost n) d = ltb d n
+exact uncapped d = true
+
 -- §6.5, §7.2: a table as far as its links go: the number of entries, the cap, which entries are valid, and the next of each
 pub record Slots : Type 0 where
   pub size : ℕ
-  pub cap : ℕ
+  pub cap : Cap
   pub valid : ℕ → Bool
   pub next : ℕ → ℕ
 
@@ -25,14 +40,15 @@ scan valid (suc left) i = let r = scan valid left (suc i) in choose (valid i) i 
 unfoldable pub firstFrom : Slots → ℕ → ℕ
 firstFrom T i = scan (T .valid) (T .size - i) i
 
--- §9.6: where the next d of the entry at i leads; Bad is the fault. A landing past the last entry is one at the cap too
+-- §9.6: where the next d of the entry at i leads; Bad is the fault. A landing past the last entry is one at the cap too. Without a cap
+-- every next is exact, and nothing is searched for
 unfoldable pub following : Slots → ℕ → Next
 following T i =
     let d = T .next i in
     let k = firstFrom T (i + d) in
     choose (eqb d 0) Last
     (choose (leb (T .size) (i + d)) Bad
-    (choose (ltb d (T .cap))
+    (choose (exact (T .cap) d)
     (choose (T .valid (i + d)) (At (i + d)) Bad)
     (choose (ltb k (T .size)) (At k) Bad)))
 
@@ -57,14 +73,14 @@ path T (suc fuel) i = onward i (path T fuel) (following T i)
 abbrev pub Blank : Slots → ℕ → ℕ → Type 0
 Blank T a b = (k : ℕ) → a ≤ k → k < b → T .valid k ≡ false
 
--- §8.4, §8.5: from one ID to the following one: its entry is valid, next is as §7.2 has it, and a distance above the cap asks for blanks
--- from the landing on
+-- §8.4, §8.5: from one ID to the following one: its entry is valid, next is as §7.2 has it, and where that is less than the distance, blanks
+-- stand from the landing on
 pub record Link (T : Slots) (i j : ℕ) : Type 0 where
   pub rises : i < j
   pub inside : j < T .size
   pub valid : T .valid j ≡ true
-  pub next : T .next i ≡ min (j - i) (T .cap)
-  pub gap : T .cap < j - i → Blank T (i + T .cap) j
+  pub next : T .next i ≡ capped (T .cap) (j - i)
+  pub gap : T .next i < j - i → Blank T (i + T .next i) j
 
 -- §8.4: the same along all IDs from i on; the last has next 0
 abbrev pub Links : Slots → ℕ → List ℕ → Type 0

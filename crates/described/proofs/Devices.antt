@@ -18,6 +18,7 @@ use Rattle.mapping.specs.declared.Event.{Event}
 use Rattle.mapping.specs.Mapped.{Mapped, ittArea}
 use Rattle.mapping.specs.Commands.{tableAreas, withDevices}
 use Rattle.chains.proofs.Way.{choose-cases}
+use Rattle.chains.specs.Slots.{capped}
 use Rattle.tables.specs.Bytes.{entryAt, deviceTable, ittTable, deviceSlots}
 use Rattle.described.specs.Described.{DeviceFields}
 use Rattle.tables.specs.Restored.{Out, fault, found, deviceAt, visitDevice, readEvents}
@@ -96,10 +97,10 @@ module _ (m : Machine) (mem : List ℕ) where
       (λ s. no-fault (s .1))
       (choose-cases (leb (d .bits) 16) p)
 
-pub device-pos : (t : List ℕ) → 0 < deviceSlots t .cap
+pub device-pos : (t : List ℕ) → 0 < capped (deviceSlots t .cap) 1
 unfolding deviceSlots
 device-pos t = omega arith
 
-pub device-small : (t : List ℕ) (i : ℕ) → deviceSlots t .next i ≤ deviceSlots t .cap
+pub device-small : (t : List ℕ) (i : ℕ) → capped (deviceSlots t .cap) (deviceSlots t .next i) ≡ deviceSlots t .next i
 unfolding deviceSlots
 device-small t i = omega (arith, device-of-fits (entryAt t i) .next)

@@ -10,13 +10,13 @@ use lib.Dec.{leb}
 use borrow.Author.Tests.{le-leb, lt-leb, leb-true, leb-false}
 use Rattle.lists.proofs.All.{All, none, more}
 use Rattle.areas.proofs.Tests.{and-left, and-right}
-use Rattle.entries.proofs.Laws.{event-of-fits}
 use Rattle.mapping.specs.declared.Collection.{Collection}
 use Rattle.mapping.specs.declared.Event.{Event}
 use Rattle.mapping.specs.Mapped.{Mapped, eventKey, rising}
 use Rattle.mapping.specs.Commands.{hasCollection, withEvents}
 use Rattle.chains.proofs.Way.{choose-cases}
-use Rattle.tables.specs.Bytes.{entryAt, eventSlots}
+use Rattle.chains.specs.Slots.{capped}
+use Rattle.tables.specs.Bytes.{eventSlots}
 use Rattle.tables.specs.Saved.{eventId}
 use Rattle.described.specs.Described.{EventFields, Itt}
 use Rattle.tables.specs.Restored.{found, eventAt, visitEvent, readEvents}
@@ -85,13 +85,13 @@ module _ (t : List ℕ) (id : ℕ) where
       let x : (k .events ++ (e ∷ [])) ++ map (eventAt t id) is ≡ k .events ++ (e ∷ map (eventAt t id) is) = append-assoc (k .events) (e ∷ []) (map (eventAt t id) is) in
       (more (w .0) (r .0), omega (arith, r .1), rw x at (r .2))
 
-  pos : 0 < eventSlots t .cap
+  pos : 0 < capped (eventSlots t .cap) 1
   unfolding eventSlots
   pos = omega arith
 
-  small : (i : ℕ) → eventSlots t .next i ≤ eventSlots t .cap
+  small : (i : ℕ) → capped (eventSlots t .cap) (eventSlots t .next i) ≡ eventSlots t .next i
   unfolding eventSlots
-  small i = omega (arith, event-of-fits (entryAt t i) .next)
+  small i = refl
 
   -- events that an ITT describes are those at its chained IDs
   at-ids : (cs : List Collection) (es : List Event) → Held t id cs es → map (eventAt t id) (map eventId es) ≡ es

@@ -11,7 +11,7 @@ use Rattle.lists.proofs.All.{All, none, more}
 use Rattle.mapping.specs.Mapped.{Mapped, rising}
 use Rattle.chains.specs.declared.Next.{Next}
 use Rattle.chains.specs.declared.Next.the-variants.{Last, At, Bad}
-use Rattle.chains.specs.Slots.{Slots, firstFrom, following, onto, onward, path, whole, Links}
+use Rattle.chains.specs.Slots.{Slots, capped, firstFrom, following, onto, onward, path, whole, Links}
 use Rattle.chains.proofs.Scan.{Scanned, first-says, found-at, found-none}
 use Rattle.chains.proofs.Way.{choose-cases}
 use Rattle.chains.proofs.Chained.{path-is, path-says}
@@ -58,7 +58,7 @@ module _ (T : Slots) (v : ℕ → Mapped → Out) where
           let r = ih j (s .0) (s .2) in
           (j ∷ r .0, ap (onto i) (r .1))
 
-  module _ (pos : 0 < T .cap) where
+  module _ (pos : 0 < capped (T .cap) 1) where
     -- a table that chains the IDs is walked along them
     pub walk-is : (ids : List ℕ) (k : Mapped) → Chain T ids → walk T v k ≡ visits v ids k
     unfolding walk
@@ -70,7 +70,7 @@ module _ (T : Slots) (v : ℕ → Mapped → Out) where
         (run-whole v i js k)
 
     -- a walk that ends well is along chained IDs
-    pub walk-says : ((i : ℕ) → T .next i ≤ T .cap) → (k h : Mapped) → walk T v k ≡ found h → (ids : List ℕ) × Chain T ids × (visits v ids k ≡ found h)
+    pub walk-says : ((i : ℕ) → capped (T .cap) (T .next i) ≡ T .next i) → (k h : Mapped) → walk T v k ≡ found h → (ids : List ℕ) × Chain T ids × (visits v ids k ≡ found h)
     unfolding walk
     walk-says small k h p =
         let f = firstFrom T 0 in

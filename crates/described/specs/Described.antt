@@ -53,7 +53,7 @@ pub record EventFields (t : List ℕ) (e : Event) : Type 0 where
   pub lpi : eventOf (entryAt t (e .event)) .lpi ≡ e .lpi
   pub icid : eventOf (entryAt t (e .event)) .icid ≡ e .icid
 
--- §8.6: an ITT with the events of its device
+-- §8.6: an ITT with the events of its device; none of its distances is capped
 pub record Itt (t : List ℕ) (es : List Event) : Type 0 where
   pub chain : Chain (eventSlots t) (map eventId es)
   pub fields : All (EventFields t) es

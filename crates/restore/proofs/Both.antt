@@ -1,4 +1,4 @@
--- The two kinds of table are the slots that the definitions name, and no distance is above its table's cap. Assumes nothing.
+-- The two kinds of table are the slots that the definitions name, and no next is above its table's cap. Assumes nothing.
 use mathlib.Core.Path.{_≡_, refl, sym, _∙_}
 use mathlib.Core.Bool.{Bool, true, false}
 use mathlib.Core.List.{List}
@@ -6,9 +6,9 @@ use Prim.Native.Nat.{ℕ, _+_, _/_, _≤_, _<_}
 use native.Mathlib.Omega.{arith}
 use lib.ListN.{length}
 use borrow.Author.Tests.{lt-ltb, le-ltb}
-use Rattle.entries.proofs.Laws.{device-of-fits, event-of-fits}
+use Rattle.entries.proofs.Laws.{device-of-fits}
 use Rattle.chains.specs.declared.Next.the-variants.{Last, At, Bad}
-use Rattle.chains.specs.Slots.{firstFrom, following}
+use Rattle.chains.specs.Slots.{capped, exact, firstFrom, following}
 use Rattle.chains.proofs.Scan.{first-hit, first-miss, first-end}
 use Rattle.chains.proofs.Way.{way-last, way-out, way-near, way-far}
 use Rattle.tables.specs.Bytes.{entryAt, deviceSlots, eventSlots}
@@ -22,15 +22,15 @@ pub event-slots : (t : List ℕ) → slotsOf false t ≡ eventSlots t
 unfolding slotsOf validOf nextOf capOf eventSlots
 event-slots t = refl
 
-pub cap-pos : (device : Bool) (t : List ℕ) → 0 < slotsOf device t .cap
+pub cap-pos : (device : Bool) (t : List ℕ) → 0 < capped (slotsOf device t .cap) 1
 unfolding slotsOf capOf
 cap-pos true t = omega arith
 cap-pos false t = omega arith
 
-pub next-small : (device : Bool) (t : List ℕ) (i : ℕ) → slotsOf device t .next i ≤ slotsOf device t .cap
+pub next-small : (device : Bool) (t : List ℕ) (i : ℕ) → capped (slotsOf device t .cap) (slotsOf device t .next i) ≡ slotsOf device t .next i
 unfolding slotsOf capOf nextOf
 next-small true t i = omega (arith, device-of-fits (entryAt t i) .next)
-next-small false t i = omega (arith, event-of-fits (entryAt t i) .next)
+next-small false t i = refl
 
 module _ (device : Bool) (t : List ℕ) where
   -- what the code has read of an entry
@@ -84,7 +84,7 @@ module _ (device : Bool) (t : List ℕ) where
       leads-out h = way-out (slotsOf device t) i d (next-read i w d e f) n h
 
       module _ (h : i + d < length t / 8) where
-        module _ (c : d < capOf device) (x : ℕ) (b : Bool) (p : x ≡ entryAt t (i + d)) (q : b ≡ validOf device x) where
+        module _ (c : exact (capOf device) d ≡ true) (x : ℕ) (b : Bool) (p : x ≡ entryAt t (i + d)) (q : b ≡ validOf device x) where
           pub leads-near : b ≡ true → At (i + d) ≡ following (slotsOf device t) i
           unfolding slotsOf
           leads-near y =
@@ -95,7 +95,7 @@ module _ (device : Bool) (t : List ℕ) where
           leads-blank y =
               rw (valid-read (i + d) x b p q ∙ y) at (way-near (slotsOf device t) i d (next-read i w d e f) n h c)
 
-        module _ (c : capOf device ≤ d) (k : ℕ) (p : k ≡ firstFrom (slotsOf device t) (i + d)) where
+        module _ (c : exact (capOf device) d ≡ false) (k : ℕ) (p : k ≡ firstFrom (slotsOf device t) (i + d)) where
           pub leads-far : k < length t / 8 → At k ≡ following (slotsOf device t) i
           unfolding slotsOf
           leads-far g = rw (← p, lt-ltb k (length t / 8) g) at (way-far (slotsOf device t) i d (next-read i w d e f) n h c)

@@ -5,8 +5,8 @@ use mathlib.Core.List.{List}
 use lib.ListN.{length}
 use Rattle.entries.specs.Device.{isDevice, deviceOf}
 use Rattle.entries.specs.Event.{isEvent, eventOf}
-use Rattle.chains.specs.Slots.{Slots}
-use Rattle.tables.specs.Bytes.{entryAt, deviceCap, eventCap}
+use Rattle.chains.specs.Slots.{Cap, uncapped, Slots}
+use Rattle.tables.specs.Bytes.{entryAt, deviceCap}
 
 unfoldable pub validOf : Bool → ℕ → Bool
 validOf true w = isDevice w
@@ -16,9 +16,9 @@ unfoldable pub nextOf : Bool → ℕ → ℕ
 nextOf true w = deviceOf w .next
 nextOf false w = eventOf w .next
 
-unfoldable pub capOf : Bool → ℕ
+unfoldable pub capOf : Bool → Cap
 capOf true = deviceCap
-capOf false = eventCap
+capOf false = uncapped
 
 -- Inner: computes to deviceSlots and to eventSlots
 unfoldable pub slotsOf : Bool → List ℕ → Slots

@@ -4,17 +4,15 @@ use chains::Next;
 ghost use mathlib.Core.Path.{_≡_};
 ghost use Prim.Native.Nat.{_/_, _≤_, _<_};
 ghost use lib.ListN.{length};
-ghost use Rattle.chains.specs.Slots.{firstFrom, following};
+ghost use Rattle.chains.specs.Slots.{exact, firstFrom, following};
 ghost use Rattle.tables.specs.Bytes.{entryAt};
 ghost use Rattle.restore.specs.Both.{validOf, nextOf, capOf, slotsOf};
 
 // The bytes of an entry.
 pub const ENTRY: usize = 8;
 
-// The caps of §7.2: such a next may stand for a larger distance.
+// The cap of §7.2, of device tables alone: such a next may stand for a larger distance.
 const DEVICE_CAP: u64 = 16383;
-
-const EVENT_CAP: u64 = 65535;
 
 // The word of an entry.
 pub fn entry_at(t: &[u8], i: usize) -> u64
@@ -46,13 +44,14 @@ fn next_of(device: bool, w: u64) -> u64
     e.next
 }
 
-fn cap_of(device: bool) -> u64
-    ensures { λ r. ⌜ r ≡ capOf device ⌝ }
+// Whether a next is the distance itself: an event's always is, a device's where it is below the cap.
+fn is_exact(device: bool, next: u64) -> bool
+    ensures { λ r. ⌜ r ≡ exact (capOf device) next ⌝ }
 {
     if device {
-        return DEVICE_CAP;
+        return next < DEVICE_CAP;
     }
-    EVENT_CAP
+    true
 }
 
 // The first entry that is there, from `from` on, or the number of entries.
@@ -86,14 +85,14 @@ pub fn follow(device: bool, t: &[u8], i: usize) -> Next
         return Next::Bad;
     }
     let j = i + d;
-    if next < cap_of(device) {
-        // §9.6: below the cap the distance is exact, and a blank there is a fault.
+    if is_exact(device, next) {
+        // §9.6: a blank there is a fault.
         if valid_of(device, entry_at(t, j)) {
             return Next::At(j);
         }
         return Next::Bad;
     }
-    // At the cap the following entry may lie further on.
+    // At a device table's cap the following entry may lie further on.
     let k = first_from(device, t, j);
     if k < n {
         return Next::At(k);

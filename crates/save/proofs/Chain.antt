@@ -1,5 +1,5 @@
 -- A chained table, written row by row: one law for devices and for events. Assumes nothing.
-use Prim.Native.Nat.{ℕ, zero, suc, _+_, _-_, _*_, _≤_, _<_, min}
+use Prim.Native.Nat.{ℕ, zero, suc, _+_, _-_, _*_, _≤_, _<_}
 use native.Mathlib.Numerals.{add-one}
 use native.Mathlib.Omega.{arith}
 use mathlib.Core.Path.{_≡_, refl, sym, ap, _∙_, subst}
@@ -9,6 +9,8 @@ use lib.ListN.{length, getD, drop, drop-of-length-le}
 use borrow.Author.Tests.{eq-eqb, ne-eqb, lt-ltb, le-ltb}
 use Rattle.areas.proofs.Tests.{lt-or-ge}
 use Rattle.words.specs.Words.{bytesOf, putAt}
+use Rattle.chains.specs.Slots.{Cap, capped}
+use Rattle.chains.proofs.Way.{capped-le}
 use Rattle.tables.specs.Saved.{nextOf, chainWord, tableOf}
 use Rattle.save.specs.Saving.{blank, rowAfter, Ready, Room}
 use Rattle.save.proofs.Rows.{row-left}
@@ -43,17 +45,18 @@ module _ {A : Type 0} (key : A → ℕ) (n : ℕ) where
     pub row-high : key x < n
     row-high = row .1
 
-module _ {A : Type 0} (key : A → ℕ) (word : A → ℕ → ℕ) (cap : ℕ) where
-  -- the distance to the row after, at most the cap
+module _ {A : Type 0} (key : A → ℕ) (word : A → ℕ → ℕ) (cap : Cap) where
+  -- the distance to the row after, as an entry holds it
   next-row : (d : A) (to : ℕ) (l : List A) (j k : ℕ) (x y : A) → to ≡ length l → j < to → x ≡ getD l j d → k ≡ rowAfter j to → y ≡ getD l k d
-      → min (key y - key x) cap ≡ nextOf key cap x (drop (j + 1) l)
+      → capped cap (key y - key x) ≡ nextOf key cap x (drop (j + 1) l)
   unfolding nextOf
   next-row d to l j k x y f h e g q =
       ⊎-elim
       (λ (b : j + 1 < to). rw (row-left d l (j + 1) y (omega arith) (q ∙ ap (λ (z : ℕ). getD l z d) (after-more j to k b g))))
       (λ (b : to ≤ j + 1).
           let s : y ≡ x = q ∙ ap (λ (z : ℕ). getD l z d) (after-last j to k b g) ∙ sym e in
-          rw (s, drop-of-length-le l {i = j + 1} (omega arith)) (omega arith))
+          let z : key y - key x ≡ 0 = rw s (omega arith) in
+          rw (z, drop-of-length-le l {i = j + 1} (omega arith)) (omega (arith, capped-le cap 0)))
       (lt-or-ge (j + 1) to)
 
   module _ (n : ℕ) where
@@ -125,7 +128,7 @@ module _ {A : Type 0} (key : A → ℕ) (word : A → ℕ → ℕ) (cap : ℕ) w
 
         -- the same, of the row x at j, with the row y after it and the distance o
         pub write-row : (d : A) (to : ℕ) (a : List A) (j k o w : ℕ) (x y : A) → to ≡ length a → j < to → Writing (drop j a) s i → x ≡ getD a j d
-            → k ≡ rowAfter j to → y ≡ getD a k d → o ≡ min (key y - key x) cap → w ≡ word x o → length t ≡ length s
+            → k ≡ rowAfter j to → y ≡ getD a k d → o ≡ capped cap (key y - key x) → w ≡ word x o → length t ≡ length s
             → t ≡ putAt s (at + i * 8) (tableOf blank (key x - i) ++ bytesOf 8 w) → Writing (drop (j + 1) a) t (key x + 1)
         write-row d to a j k o w x y f h v e g p u z l′ q =
             write-turn (drop j a) x (drop (j + 1) a) w (row-left d a j x (omega arith) e) v (z ∙ ap (word x) (u ∙ next-row d to a j k x y f h e g p)) l′ q

@@ -2,21 +2,20 @@
 // one, so that no table of them is copied.
 ghost use mathlib.Core.Path.{_≡_};
 ghost use mathlib.Core.List.{_++_};
-ghost use Prim.Native.Nat.{_+_, _-_, _*_, _^_, _≤_, _<_, min};
+ghost use Prim.Native.Nat.{_+_, _-_, _*_, _^_, _≤_, _<_};
 ghost use lib.ListN.{length};
 ghost use Rattle.words.specs.Words.{bytesOf, putAt};
 ghost use Rattle.layout.specs.Layout.{decode};
 ghost use Rattle.maplayout.specs.MapLayout.{decodeMap, Counted};
-ghost use Rattle.tables.specs.Bytes.{deviceCap, eventCap};
+ghost use Rattle.chains.specs.Slots.{capped};
+ghost use Rattle.tables.specs.Bytes.{deviceCap};
 ghost use Rattle.tables.specs.Saved.{tableOf, deviceEntry, eventEntry, savedDevice, savedCollection, savedEvent, savedItts, savedMemory};
 ghost use Rattle.save.specs.Saving.{blank, rowAfter, collectionEntry, eventRun, firstEvent, savedItt};
 ghost use Rattle.save.specs.Saving.{DeviceGood, CollectionGood, DevicesReady, CollectionsReady, EventsReady};
 ghost use Rattle.save.specs.Saving.{IttCursor, IttsReady, Saveable};
 
-// The caps of §7.2: the largest next that an entry has room for.
+// The cap of §7.2: the largest next that a device's entry has room for.
 const DEVICE_CAP: u64 = 16383;
-
-const EVENT_CAP: u64 = 65535;
 
 // The word of entry `i` of a table that starts at index `at` of memory.
 fn put_entry(mem: &mut [u8], at: usize, i: usize, word: u64)
@@ -61,22 +60,29 @@ fn row_after(j: usize, to: usize) -> usize
     j
 }
 
-// The distance from an ID to the following row's, as an entry has it: at most the cap, and 0 from a last row to itself.
-fn distance(from: u64, to: u64, cap: u64) -> u64
-    ensures { λ r. ⌜ r ≡ min (to - from) cap ⌝ }
+// The distance from an ID to the following row's: 0 from a last row to itself.
+fn distance(from: u64, to: u64) -> u64
+    ensures { λ r. ⌜ r ≡ to - from ⌝ }
 {
     if to <= from {
         return 0;
     }
-    let gap = to - from;
-    if gap < cap {
-        return gap;
+    to - from
+}
+
+// The same as a device's entry holds it, at most the cap. An event's entry has room for every distance in an ITT.
+fn device_next(from: u64, to: u64) -> u64
+    ensures { λ r. ⌜ r ≡ capped deviceCap (to - from) ⌝ }
+{
+    let next = distance(from, to);
+    if next < DEVICE_CAP {
+        return next;
     }
-    cap
+    DEVICE_CAP
 }
 
 fn device_word(d: mapping::Device, next: u64) -> u64
-    requires { ⌜ (DeviceGood d) × (next ≤ deviceCap) ⌝ }
+    requires { ⌜ (DeviceGood d) × (next < 2 ^ 14) ⌝ }
     ensures { λ r. ⌜ r ≡ deviceEntry d next ⌝ }
 {
     entries::device_word(entries::DeviceEntry {
@@ -99,7 +105,7 @@ fn write_devices(s: &[u8], mem: &mut [u8], at: usize, n: usize)
         let d = maplayout::device_at(s, j);
         let following = maplayout::device_at(s, row_after(j, count));
         let past = d.id + 1; // the entry after this device's
-        let next = distance(d.id, following.id, DEVICE_CAP);
+        let next = device_next(d.id, following.id);
         write_next(mem, at, i, d.id as usize, device_word(d, next));
         i = past as usize;
         j += 1; // to the following device
@@ -135,7 +141,7 @@ fn write_collections(s: &[u8], mem: &mut [u8], at: usize, n: usize)
 }
 
 fn event_word(e: mapping::Event, next: u64) -> u64
-    requires { ⌜ next ≤ eventCap ⌝ }
+    requires { ⌜ next < 2 ^ 16 ⌝ }
     ensures { λ r. ⌜ r ≡ eventEntry e next ⌝ }
 {
     entries::event_word(entries::EventEntry {
@@ -156,7 +162,7 @@ fn write_events(s: &[u8], mem: &mut [u8], at: usize, n: usize, from: usize, to: 
         let e = maplayout::event_at(s, j);
         let following = maplayout::event_at(s, row_after(j, to));
         let id = e.event as usize;
-        let next = distance(e.event as u64, following.event as u64, EVENT_CAP);
+        let next = distance(e.event as u64, following.event as u64);
         write_next(mem, at, i, id, event_word(e, next));
         i = id + 1;
         j += 1;

@@ -1,5 +1,5 @@
 -- The rows of a sound mapping: their words fit 8 bytes, are valid and read back, and their IDs are inside their tables.
-use Prim.Native.Nat.{ℕ, _^_, _≤_, _<_}
+use Prim.Native.Nat.{ℕ, _^_, _<_}
 use native.Mathlib.Omega.{arith}
 use mathlib.Core.Path.{_≡_, ap, _∙_}
 use mathlib.Core.Bool.{true}
@@ -20,7 +20,8 @@ use Rattle.mapping.specs.declared.Device.{Device}
 use Rattle.mapping.specs.declared.Collection.{Collection}
 use Rattle.mapping.specs.declared.Event.{Event}
 use Rattle.mapping.specs.Mapped.{Mapped, deviceKey, collectionKey, eventKey, rising, ittArea, noCollection}
-use Rattle.tables.specs.Bytes.{deviceCap, eventCap}
+use Rattle.chains.specs.Slots.{uncapped}
+use Rattle.tables.specs.Bytes.{deviceCap}
 use Rattle.tables.specs.Saved.{deviceEntry, eventEntry, eventId, eventsOf, isOf}
 use Rattle.described.specs.Described.{DeviceFields, EventFields}
 use Rattle.lists.proofs.Member.{In, all-in, all-weaker}
@@ -39,9 +40,16 @@ nextDevice w = deviceOf w .next
 abbrev pub nextEvent : ℕ → ℕ
 nextEvent w = eventOf w .next
 
+-- how many nexts the word of a device and of an event tells apart
+abbrev pub deviceRoom : ℕ
+deviceRoom = 2 ^ 14
+
+abbrev pub eventRoom : ℕ
+eventRoom = 2 ^ 16
+
 -- devices
 module _ (m : Machine) (sound : rules m ≡ true) (d : Device) (p : DeviceParts m d) where
-  device-fits : (n : ℕ) → n ≤ deviceCap → DeviceFits (record { next = n; itt = d .itt; bits = d .bits })
+  device-fits : (n : ℕ) → n < deviceRoom → DeviceFits (record { next = n; itt = d .itt; bits = d .bits })
   device-fits n h =
       let i = within m (ittArea d) (p .within) in
       record {
@@ -52,14 +60,14 @@ module _ (m : Machine) (sound : rules m ≡ true) (d : Device) (p : DeviceParts 
         high = omega arith;
       }
 
-  pub device-good : Good deviceKey deviceEntry deviceCap isDevice nextDevice d
+  pub device-good : Good deviceKey deviceEntry deviceCap deviceRoom isDevice nextDevice d
   device-good = record {
     small = λ n h. device-word-lt _ (device-fits n h);
     valid = λ n h. device-word-valid _;
     next = λ n h. ap (λ (e : DeviceEntry). e .next) (device-of-word _ (device-fits n h));
   }
 
-  pub device-fields : (t : List ℕ) → Written deviceKey deviceEntry deviceCap t d → DeviceFields t d
+  pub device-fields : (t : List ℕ) → Written deviceKey deviceEntry deviceCap deviceRoom t d → DeviceFields t d
   device-fields t w =
       let e = ap deviceOf (w .2) ∙ device-of-word _ (device-fits (w .0) (w .1)) in
       record { itt = ap (λ (x : DeviceEntry). x .itt) e; bits = ap (λ (x : DeviceEntry). x .bits) e }
@@ -70,20 +78,20 @@ collection-fits m sound c p = record { pe = omega (arith, p .pe, sound-vcpus m s
 
 -- events
 module _ (m : Machine) (cs : List Collection) (all : All (CollectionParts m) cs) (e : Event) (p : Fit cs e) where
-  event-fits : (n : ℕ) → n ≤ eventCap → EventFits (record { next = n; lpi = e .lpi; icid = e .icid })
+  event-fits : (n : ℕ) → n < eventRoom → EventFits (record { next = n; lpi = e .lpi; icid = e .icid })
   event-fits n h =
       let f = found-key collectionKey (e .icid) cs noCollection (p .icid) in
       let c = all-in cs all (f .0) .icid in
       record { next = omega arith; lpi = omega (arith, p .high); icid = omega (arith, f .1) }
 
-  pub event-good : Good eventId eventEntry eventCap isEvent nextEvent e
+  pub event-good : Good eventId eventEntry uncapped eventRoom isEvent nextEvent e
   event-good = record {
     small = λ n h. event-word-lt _ (event-fits n h);
     valid = λ n h. event-word-valid _ (event-fits n h) (omega (arith, p .low));
     next = λ n h. ap (λ (x : EventEntry). x .next) (event-of-word _ (event-fits n h));
   }
 
-  pub event-fields : (t : List ℕ) → Written eventId eventEntry eventCap t e → EventFields t e
+  pub event-fields : (t : List ℕ) → Written eventId eventEntry uncapped eventRoom t e → EventFields t e
   event-fields t w =
       let q = ap eventOf (w .2) ∙ event-of-word _ (event-fits (w .0) (w .1)) in
       record { lpi = ap (λ (x : EventEntry). x .lpi) q; icid = ap (λ (x : EventEntry). x .icid) q }

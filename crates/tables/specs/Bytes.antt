@@ -12,7 +12,7 @@ use Rattle.rules.specs.Rules.{tableArea}
 use Rattle.mapping.specs.declared.Device.{Device}
 use Rattle.mapping.specs.declared.Collection.{Collection}
 use Rattle.mapping.specs.Mapped.{ittArea}
-use Rattle.chains.specs.Slots.{Slots}
+use Rattle.chains.specs.Slots.{Cap, atMost, uncapped, Slots}
 
 -- §6.1: the word of entry i of a table: 8 bytes from 8 × i on, little endian
 unfoldable pub entryAt : List ℕ → ℕ → ℕ
@@ -36,12 +36,9 @@ ittTable m mem d = areaBytes m mem (ittArea d)
 abbrev pub collectionAt : List ℕ → ℕ → Collection
 collectionAt t i = record { icid = collectionOf (entryAt t i) .icid; pe = collectionOf (entryAt t i) .pe }
 
--- §7.2: the caps
-abbrev pub deviceCap : ℕ
-deviceCap = 16383
-
-abbrev pub eventCap : ℕ
-eventCap = 65535
+-- §7.2: the cap of device tables; an ITT has none
+abbrev pub deviceCap : Cap
+deviceCap = atMost 16383
 
 -- §6.2, §6.4: a device table and an ITT as chained entries, each with as many entries as its bytes make
 unfoldable pub deviceSlots : List ℕ → Slots
@@ -55,7 +52,7 @@ deviceSlots t = record {
 unfoldable pub eventSlots : List ℕ → Slots
 eventSlots t = record {
   size = length t / 8;
-  cap = eventCap;
+  cap = uncapped;
   valid = λ i. isEvent (entryAt t i);
   next = λ i. eventOf (entryAt t i) .next;
 }

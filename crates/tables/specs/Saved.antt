@@ -1,5 +1,5 @@
 -- Save (part 7): the memory that it leaves.
-use Prim.Native.Nat.{ℕ, zero, suc, _+_, _-_, _*_, _^_, min}
+use Prim.Native.Nat.{ℕ, zero, suc, _+_, _-_, _*_, _^_}
 use mathlib.Core.Bool.{Bool}
 use mathlib.Core.List.{List, [], _∷_, _++_}
 use lib.ListN.{length, getD}
@@ -15,16 +15,17 @@ use Rattle.mapping.specs.declared.Collection.{Collection}
 use Rattle.mapping.specs.declared.Event.{Event}
 use Rattle.mapping.specs.Mapped.{Mapped, deviceKey, kept, noCollection}
 use Rattle.mapping.specs.Commands.{deviceEntries}
-use Rattle.tables.specs.Bytes.{deviceCap, eventCap}
+use Rattle.chains.specs.Slots.{Cap, uncapped, capped}
+use Rattle.tables.specs.Bytes.{deviceCap}
 
 module _ {A : Type 0} where
   -- §7.2: the next of row x, behind which the rows l stand
-  unfoldable pub nextOf : (A → ℕ) → ℕ → A → List A → ℕ
+  unfoldable pub nextOf : (A → ℕ) → Cap → A → List A → ℕ
   nextOf key cap x [] = 0
-  nextOf key cap x (y ∷ l) = min (key y - key x) cap
+  nextOf key cap x (y ∷ l) = capped cap (key y - key x)
 
   -- §7.3, §7.5: the word of entry i: that of the row with ID i, with its next; else 0, 8 zero bytes. Rows rise.
-  unfoldable pub chainWord : (A → ℕ) → (A → ℕ → ℕ) → ℕ → List A → ℕ → ℕ
+  unfoldable pub chainWord : (A → ℕ) → (A → ℕ → ℕ) → Cap → List A → ℕ → ℕ
   chainWord key word cap [] i = 0
   chainWord key word cap (x ∷ l) i = choose (eqb (key x) i) (word x (nextOf key cap x l)) (chainWord key word cap l i)
 
@@ -51,7 +52,7 @@ abbrev pub savedDevice : List Device → ℕ → ℕ
 savedDevice ds i = chainWord deviceKey deviceEntry deviceCap ds i
 
 abbrev pub savedEvent : List Event → ℕ → ℕ
-savedEvent es i = chainWord eventId eventEntry eventCap es i
+savedEvent es i = chainWord eventId eventEntry uncapped es i
 
 -- §7.4: entry i of the collection table: the collection of row i, and 8 zero bytes behind the last. Rows rise by ICID
 unfoldable pub savedCollection : List Collection → ℕ → ℕ

@@ -20,11 +20,15 @@ pub const CASES: &[(&str, fn(&mut Case))] = &[
     ("§9.5, §8.7 device: next, bits, 33rd, not inside, overlap, in this order", device_order),
     ("§9.5 33 devices: -12, or -22 where the 33rd has a bad next", device_limit),
     ("§9.7, §8.7, §12.9 events: LPI, next, ICID", event_order),
-    ("§9.7, §9.6 event next at the cap", event_cap),
+    ("§9.6, §9.7 event next of 65,535: to event 65,535, onto a blank, past the end", widest_next),
+    ("§9.6, §8.6 event next of 16,383: from a blank landing nothing is searched", no_search),
+    ("§9.6 event next: valid entries behind the ITT are not in it", behind_the_itt),
+    ("§9.6, §12.7 devices and events 20,000 apart: the cap is the device table's alone", devices_alone),
     ("§9.3 the events of a device come before the following device", event_before_device),
     ("§9.7 1,024 events come back, 1,025 are -12", event_limit),
     ("§6.3, §6.4 all bits of pe and LPI are compared", wide),
     ("§10.8, §8.4, §8.6 what was saved comes back, whatever stood elsewhere", round_trip),
+    ("§10.8, §7.2, §8.6 events up to 65,535 apart come back, over entries that are not read", far_round_trip),
     ("§6.5, §9.6 an entry that no mapping can have is valid", valid_nonsense),
     ("§8.1 what bytes describe depends on memory, tables and VCPUs alone", nothing_else),
     ("§9.8 damage that still describes a mapping is restored", lost_quietly),
@@ -191,6 +195,8 @@ fn device_cap(c: &mut Case) {
     placed_wide(c);
     let row = |id: u64, next: u64| (MEMORY + 0x2_0000 + 8 * id, device(next, ITT + 0x100 * (id % 8), 4));
     c.restore(&[row(0, 16_382)], -22);
+    c.restore(&[row(0, 16_382), row(16_383, 0)], -22);
+    c.restore(&[row(0, 16_382), row(20_001, 0)], -22);
     c.restore(&[row(0, 16_382), row(16_382, 0)], 0);
     c.restore(&[row(0, 16_383), row(16_383, 0)], 0);
     c.restore(&[row(0, 16_383), row(20_001, 0)], 0);
@@ -307,21 +313,121 @@ fn event_order(c: &mut Case) {
     check(&[(0, event(7, 8192, 7)), (7, event(0, 8192, 7))], 0);
 }
 
-fn event_cap(c: &mut Case) {
+/// A large ITT that ends with memory.
+const LAST: u64 = MEMORY + 0x8_0000;
+
+impl Case<'_> {
+    /// Device 0 has an ITT at `itt` with so many bits; its events are given by number and next.
+    fn restore_events(&mut self, (itt, bits): (u64, u64), events: &[(u64, u64)], want: i64) {
+        let base = [(DEVICES, device(0, itt, bits - 1)), (COLLECTIONS, collection(7, 1))];
+        let rows: Vec<(u64, u64)> = events.iter().map(|(n, next)| (itt + 8 * n, event(*next, 8192, 7))).collect();
+        self.restore(&[&base[..], &rows].concat(), want);
+    }
+}
+
+fn widest_next(c: &mut Case) {
     c.its_placed(1);
-    let itt = MEMORY + 0x8_0000;
-    let base = [(DEVICES, device(0, itt, 15)), (COLLECTIONS, collection(7, 1))];
-    let mut check = |events: &[(u64, u64)], want: i64| {
-        let rows: Vec<(u64, u64)> = events.iter().map(|(n, entry)| (itt + 8 * n, *entry)).collect();
-        c.restore(&[&base[..], &rows].concat(), want);
+    let mut check = |events: &[(u64, u64)], want: i64| c.restore_events((LAST, 16), events, want);
+    check(&[(0, 65_535), (65_535, 0)], 0);
+    check(&[(0, 65_534), (65_534, 0)], 0);
+    check(&[(0, 65_534), (65_534, 1), (65_535, 0)], 0);
+    check(&[(1, 65_534), (65_535, 0)], 0);
+    // Entry 65,535 is blank.
+    check(&[(0, 65_535)], -22);
+    check(&[(0, 65_535), (65_534, 0)], -22);
+    check(&[(0, 65_535), (1, 0)], -22);
+    check(&[(1, 65_534)], -22);
+    check(&[(0, 65_534)], -22);
+    check(&[(0, 65_534), (65_535, 0)], -22);
+    check(&[(1, 65_534), (65_534, 0)], -22);
+    // From event 1 on it leaves the ITT.
+    check(&[(1, 65_535), (65_535, 0)], -22);
+    check(&[(2, 65_535), (65_535, 0)], -22);
+    check(&[(65_535, 65_535)], -22);
+    check(&[(0, 1), (1, 65_535), (65_535, 0)], -22);
+    // In an ITT of 15 bits it always does.
+    c.restore_events((LAST, 15), &[(0, 65_535), (32_767, 0)], -22);
+    // Blank, with every other bit set.
+    let rows = [(DEVICES, device(0, LAST, 15)), (COLLECTIONS, collection(7, 1)), (LAST, event(65_535, 8192, 7))];
+    c.restore(&[&rows[..], &[(LAST + 8 * 65_535, event(65_535, 0, 65_535))]].concat(), -22);
+    c.restore(&[&rows[..], &[(LAST + 8 * 65_535, event(0, 65_535, 7))]].concat(), 0);
+    c.lookup(0, 0, 8192 + 65_536);
+    c.lookup(0, 65_535, 65_535 + 65_536);
+}
+
+fn no_search(c: &mut Case) {
+    c.its_placed(1);
+    let mut check = |bits: u64, events: &[(u64, u64)], want: i64| c.restore_events((LAST, bits), events, want);
+    for bits in [15, 16] {
+        check(bits, &[(0, 16_383), (16_383, 0)], 0);
+        check(bits, &[(3, 16_383), (16_386, 0)], 0);
+        check(bits, &[(0, 16_383), (16_383, 16_383), (32_766, 0)], 0);
+        check(bits, &[(0, 20_000), (20_000, 0)], 0);
+        // The landing is blank, and a valid entry follows near it or far from it.
+        for valid in [16_384, 16_385, 20_000, 32_766, 32_767] {
+            check(bits, &[(0, 16_383), (valid, 0)], -22);
+        }
+        check(bits, &[(0, 16_383), (16_382, 0)], -22);
+        check(bits, &[(3, 16_383), (16_387, 0)], -22);
+        check(bits, &[(0, 16_383), (16_383, 16_383), (32_767, 0)], -22);
+        check(bits, &[(0, 16_382), (16_383, 0)], -22);
+        check(bits, &[(0, 16_384), (20_000, 0)], -22);
+        check(bits, &[(0, 20_000), (20_001, 0)], -22);
+        check(bits, &[(0, 16_383)], -22);
+    }
+    check(16, &[(0, 16_383), (65_535, 0)], -22);
+    check(16, &[(49_152, 16_383), (65_535, 0)], 0);
+    check(16, &[(49_153, 16_383), (65_535, 0)], -22);
+    check(14, &[(0, 16_383), (16_383, 0)], 0);
+    check(14, &[(0, 16_383)], -22);
+    check(14, &[(1, 16_383), (16_383, 0)], -22);
+}
+
+fn behind_the_itt(c: &mut Case) {
+    c.its_placed(1);
+    for bits in [13, 14, 15, 16] {
+        let (last, behind) = ((1 << bits) - 1, 1 << bits);
+        let mut check = |events: &[(u64, u64)], want: i64| c.restore_events((ITT, bits), events, want);
+        check(&[(0, last), (last, 0), (behind, 0)], 0);
+        check(&[(0, last), (behind, 0)], -22);
+        check(&[(1, last), (behind, 0)], -22);
+        check(&[(1, last), (last, 0), (behind, 0)], -22);
+        check(&[(last, 1), (behind, 0)], -22);
+        check(&[(0, last), (last, 1), (behind, 0)], -22);
+        check(&[(behind - 2, 65_535), (behind, 0)], -22);
+        check(&[(behind - 2, 16_383), (behind, 0)], -22);
+    }
+    // The landing is behind the ITT, and valid itself.
+    c.restore_events((ITT, 14), &[(1, 16_383), (16_384, 0)], -22);
+    c.restore_events((ITT, 14), &[(0, 65_535), (65_535, 0)], -22);
+    c.restore_events((ITT, 16), &[(1, 65_535), (65_536, 0)], -22);
+}
+
+/// The device table of `placed_wide`; device 0 with a next of 16,383, and a second one, each with 15 bits. Device 0 has
+/// event 0, with the next that is given, and event 20,000.
+fn devices_alone(c: &mut Case) {
+    placed_wide(c);
+    let (table, itts) = (MEMORY + 0x2_0000, [MEMORY + 0x8_0000, MEMORY + 0xc_0000]);
+    let rows = |next: u64, second: u64| {
+        [
+            (MEMORY, collection(7, 1)),
+            (table, device(16_383, itts[0], 14)),
+            (table + 8 * second, device(0, itts[1], 14)),
+            (itts[0], event(next, 8192, 7)),
+            (itts[0] + 8 * 20_000, event(0, 8193, 7)),
+            (itts[1] + 8 * 9, event(0, 8194, 7)),
+        ]
     };
-    check(&[(0, event(65_535, 8192, 7)), (65_535, event(0, 8193, 7))], 0);
-    check(&[(0, event(65_534, 8192, 7)), (65_534, event(0, 8193, 7))], 0);
-    check(&[(0, event(65_535, 8192, 7)), (65_534, event(0, 8193, 7))], -22);
-    check(&[(0, event(65_535, 8192, 7))], -22);
-    check(&[(1, event(65_535, 8192, 7)), (65_535, event(0, 8193, 7))], -22);
-    check(&[(0, event(16_383, 8192, 7)), (16_384, event(0, 8193, 7))], -22);
-    check(&[(0, event(16_383, 8192, 7)), (16_383, event(0, 8193, 7))], 0);
+    for second in [16_383, 20_000, 32_767] {
+        c.restore(&rows(20_000, second), 0);
+        c.lookup(0, 0, 8192 + 65_536);
+        c.lookup(0, 20_000, 8193 + 65_536);
+        c.lookup(second, 9, 8194 + 65_536);
+        c.restore(&rows(16_383, second), -22);
+        c.lookup(second, 9, 8194 + 65_536);
+    }
+    // The devices' next leads to nothing.
+    c.restore(&rows(20_000, 16_382), -22);
 }
 
 fn event_before_device(c: &mut Case) {
@@ -387,6 +493,36 @@ fn round_trip(c: &mut Case) {
     c.no_device(1, -2);
     c.no_collection(1, -2);
     c.no_device(20_001, 0);
+}
+
+/// Events by number and next, saved and restored. What a next jumps over is spoilt on the way.
+fn far_round_trip(c: &mut Case) {
+    let far: [&[(u64, u64)]; 4] = [
+        &[(0, 65_535), (65_535, 0)],
+        &[(0, 16_383), (16_383, 20_000), (36_383, 29_152), (65_535, 0)],
+        &[(1, 65_534), (65_535, 0)],
+        &[(0, 1), (1, 65_533), (65_534, 0)],
+    ];
+    for rows in far {
+        c.setup(40, MEMORY, LENGTH as u64, 0);
+        c.its_placed(1);
+        c.collection(7, 1, 0);
+        c.device(0, LAST, 16, 0);
+        rows.iter().for_each(|(number, _)| c.event(0, *number, 8192, 7, 0));
+        let mut entries = vec![(DEVICES, device(0, LAST, 15)), (COLLECTIONS, collection(7, 1))];
+        entries.extend(rows.iter().map(|(number, next)| (LAST + 8 * number, event(*next, 8192, 7))));
+        let saved = image(&entries);
+        c.save(&image(&[]), &saved);
+        c.no_device(0, 0);
+        for junk in [u64::MAX, event(1, 8193, 7)] {
+            let jumped = rows.windows(2).flat_map(|pair| pair[0].0 + 1..pair[1].0);
+            entries.extend(jumped.map(|number| (LAST + 8 * number, junk)));
+            c.restore(&entries, 0);
+            rows.iter().for_each(|(number, _)| c.lookup(0, *number, 8192 + 65_536));
+            c.lookup(0, 2, -2);
+            c.save(&image(&[]), &saved);
+        }
+    }
 }
 
 fn valid_nonsense(c: &mut Case) {

@@ -10,7 +10,9 @@ pub const CASES: &[(&str, fn(&mut Case))] = &[
     ("§7.6, §12.10 the empty mapping saves zeros in the two tables alone", empty),
     ("§7.3, §7.5, §7.6 every other entry of the tables and ITTs becomes zero", zeros),
     ("§7.2, §12.6, §12.7 next of devices, up to 16,383", device_next),
-    ("§7.2 next of events, up to 65,535", event_next),
+    ("§7.2, §7.5 next of events is the distance itself, up to 65,535", event_next),
+    ("§7.2, §7.5 distances of 16,383, 20,000 and more in one ITT", event_distances),
+    ("§7.2, §12.7 devices and events 20,000 apart: the devices' next alone is cut", devices_alone),
     ("§7.4 collections by rising ICID from entry 0", collections),
     ("§6.1, §6.2, §6.3, §2.11 wide fields: the highest ITT, the last pe", wide),
     ("§7.6 save leaves the state, and can be made again", again),
@@ -147,7 +149,7 @@ fn device_next(c: &mut Case) {
 }
 
 fn event_next(c: &mut Case) {
-    for (second, next) in [(1, 1u64), (16_383, 16_383), (16_384, 16_384), (65_534, 65_534), (65_535, 65_535)] {
+    for second in [1, 16_382, 16_383, 16_384, 20_000, 32_768, 65_534, 65_535u64] {
         c.setup(40, MEMORY, 0x10_0000, 0);
         c.its_placed(1);
         c.collection(0xffff, 3, 0);
@@ -159,11 +161,53 @@ fn event_next(c: &mut Case) {
             &[
                 (MEMORY, 0x8000_0000_0801_000f),
                 (MEMORY + 0x1000, 0x8000_0000_0003_ffff),
-                (0x4008_0000, 0x0000_0000_ffff_ffff | next << 48),
+                (0x4008_0000, 0x0000_0000_ffff_ffff | second << 48),
                 (0x4008_0000 + 8 * second, 0x0000_0000_2000_ffff),
             ],
         );
     }
+}
+
+fn event_distances(c: &mut Case) {
+    c.its_placed(1);
+    c.collection(7, 1, 0);
+    c.device(0, 0x4008_0000, 16, 0);
+    for event in [65_535, 1, 36_384, 16_384] {
+        c.event(0, event, 8192, 7, 0);
+    }
+    c.saves(
+        &[TABLES, (0x4008_0000, 0x8_0000)],
+        &[
+            (MEMORY, 0x8000_0000_0801_000f),
+            (MEMORY + 0x1000, 0x8000_0000_0001_0007),
+            (0x4008_0000 + 8, 16_383 << 48 | 0x2000_0007),
+            (0x4008_0000 + 8 * 16_384, 20_000 << 48 | 0x2000_0007),
+            (0x4008_0000 + 8 * 36_384, 29_151 << 48 | 0x2000_0007),
+            (0x4008_0000 + 8 * 65_535, 0x2000_0007),
+        ],
+    );
+}
+
+fn devices_alone(c: &mut Case) {
+    c.its_placed(64);
+    c.collection(7, 1, 0);
+    for (id, itt) in [(0, 0x4008_0000), (20_000, 0x400c_0000)] {
+        c.device(id, itt, 15, 0);
+        c.event(id, 0, 8192, 7, 0);
+        c.event(id, 20_000, 8193, 7, 0);
+    }
+    c.saves(
+        &[(MEMORY, 65 * 0x1000), (0x4008_0000, 0x4_0000), (0x400c_0000, 0x4_0000)],
+        &[
+            (MEMORY, 16_383 << 49 | 0x8000_0000_0801_000e),
+            (MEMORY + 8 * 20_000, 0x8000_0000_0801_800e),
+            (MEMORY + 0x4_0000, 0x8000_0000_0001_0007),
+            (0x4008_0000, 20_000 << 48 | 0x2000_0007),
+            (0x4008_0000 + 8 * 20_000, 0x2001_0007),
+            (0x400c_0000, 20_000 << 48 | 0x2000_0007),
+            (0x400c_0000 + 8 * 20_000, 0x2001_0007),
+        ],
+    );
 }
 
 fn collections(c: &mut Case) {

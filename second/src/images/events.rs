@@ -5,8 +5,10 @@ use super::image::{linked, Image, COLLECTIONS, ENTRIES, ROOM};
 use super::Set;
 use crate::model::guest::PAGE;
 
-/// §7.2: the cap.
-const CAP: u64 = 65_535;
+/// §6.4: every bit of next set.
+const WIDEST: u64 = 65_535;
+/// §7.2: what is the cap in the device table. Here it is a next like others.
+const DEVICE_CAP: u64 = 16_383;
 /// An entry with LPI 0, every other bit set: blank.
 const BLANK_ONES: u64 = 0xffff_0000_0000_ffff;
 
@@ -147,13 +149,15 @@ fn alone(set: &mut Set) {
         (5, 0, 31),
         (5, 0, 32),
         (5, 31, 1),
-        (5, 31, CAP),
-        (5, 0, CAP - 1),
-        (5, 0, CAP),
+        (5, 31, WIDEST),
+        (5, 0, WIDEST - 1),
+        (5, 0, WIDEST),
         (9, 1, 510),
         (9, 1, 511),
         (12, 0, 4095),
-        (12, 0, CAP),
+        (12, 0, DEVICE_CAP),
+        (12, 0, WIDEST),
+        (12, 1, WIDEST),
     ] {
         let name = format!("{next}-from-{number}-of-{bits}-bits-with-nothing-after");
         set.refused(&name, chain(bits, &[(number, next)]), -22);
@@ -162,7 +166,7 @@ fn alone(set: &mut Set) {
 
 /// §9.6, §9.8: events 0 and 5. Any next but 5 loses the second, and only 0 does so without a word.
 fn off_by_one(set: &mut Set) {
-    for next in [1, 4, 6, 32, 32 + 5, 16_383, 32_768 + 5, CAP - 1, CAP] {
+    for next in [1, 4, 6, 32, 32 + 5, DEVICE_CAP, 32_768 + 5, WIDEST - 1, WIDEST] {
         set.refused(&format!("{next}-where-5-leads-on"), chain(5, &[(0, next), (5, 0)]), -22);
     }
     set.shown("0-too-early", chain(5, &[(0, 0), (5, 0)]), [2, 1, 1]);
@@ -178,18 +182,20 @@ fn jumps(set: &mut Set) {
     set.shown("three-first-0", three(0, 4), [2, 1, 1]);
     set.refused("three-second-short", three(5, 3), -22);
     set.refused("three-second-long", three(5, 5), -22);
-    set.refused("three-second-at-cap", three(5, CAP), -22);
+    set.refused("three-second-16383", three(5, DEVICE_CAP), -22);
+    set.refused("three-second-65535", three(5, WIDEST), -22);
     set.refused("three-first-short", three(4, 4), -22);
 }
 
 /// §9.6.
 fn last_of_two(set: &mut Set) {
-    for next in [1, 26, 27, CAP - 1, CAP] {
+    for next in [1, 26, 27, DEVICE_CAP, WIDEST - 1, WIDEST] {
         set.refused(&format!("{next}-from-the-last-of-two"), chain(5, &[(0, 5), (5, next)]), -22);
     }
     let full = || chain(9, &linked(&numbers(512)));
     set.refused("1-from-the-last-of-512", full().event(ROOM, 511, 1, 8192, 7), -22);
-    set.refused("cap-in-the-middle-of-512", full().event(ROOM, 255, CAP, 8192, 7), -22);
+    set.refused("16383-in-the-middle-of-512", full().event(ROOM, 255, DEVICE_CAP, 8192, 7), -22);
+    set.refused("65535-in-the-middle-of-512", full().event(ROOM, 255, WIDEST, 8192, 7), -22);
 }
 
 /// §9.7, §5.10.

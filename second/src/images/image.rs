@@ -62,7 +62,7 @@ impl Image {
     }
 }
 
-/// §7.2: each ID with its next. No distance in an image reaches a cap.
+/// §7.2: each ID with its next. No distance in an image reaches the cap.
 pub fn linked(ids: &[u64]) -> Vec<(u64, u64)> {
     let next = |n: usize| ids.get(n + 1).map_or(0, |following| following - ids[n]);
     ids.iter().enumerate().map(|(n, id)| (*id, next(n))).collect()

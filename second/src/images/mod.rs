@@ -2,8 +2,9 @@
 //! docs/DEFINITION.md says of it; the paragraphs are named over the functions.
 //!
 //! A device table of one page has 512 entries and an ITT inside 65,536 bytes at most 4,096, so no chain here can be one
-//! that the caps of §7.2 shorten: a next of 16,383 or 65,535 always leaves its table. What can be reached stands in
-//! `devices` and `events`: those values as damage, and the largest distances that fit (511 and 4,095).
+//! that the cap of §7.2 shortens: a next of 16,383 always leaves its table, and so does one of 65,535 in an ITT. What
+//! can be reached stands in `devices` and `events`: those values as damage, and the largest distances that fit (511 and
+//! 4,095).
 
 mod collections;
 mod damage;

@@ -3,13 +3,14 @@
 
 use super::its::{Device, Event, Mapping, COLLECTION_LIMIT, DEVICE_LIMIT, EVENT_LIMIT};
 use super::restore::World;
-use super::tables::{DEVICE_CAP, EVENT_CAP};
+use super::tables::DEVICE_CAP;
 use std::collections::BTreeSet;
 
 /// A table with nexts (§8.4, §8.6): which of its entries are blank, and the next of each.
 struct Links<'a> {
     entries: u64,
-    cap: u64,
+    /// §7.2: none in an ITT.
+    cap: Option<u64>,
     blank: Box<dyn Fn(u64) -> bool + 'a>,
     next: Box<dyn Fn(u64) -> u64 + 'a>,
 }
@@ -19,17 +20,17 @@ fn device_links<'a>(world: &'a World) -> Links<'a> {
     let table = world.tables.devices;
     Links {
         entries: table.entries(),
-        cap: DEVICE_CAP,
+        cap: Some(DEVICE_CAP),
         blank: Box::new(move |id| world.entry(table.start, id) >> 63 == 0),
         next: Box::new(move |id| world.entry(table.start, id) << 1 >> 50),
     }
 }
 
-/// §6.4, §7.2: the same in an ITT.
+/// §6.4, §8.6: blank and next in an ITT.
 fn event_links<'a>(world: &'a World, device: Device) -> Links<'a> {
     Links {
         entries: 1 << device.bits,
-        cap: EVENT_CAP,
+        cap: None,
         blank: Box::new(move |number| world.entry(device.itt, number) << 16 >> 32 == 0),
         next: Box::new(move |number| world.entry(device.itt, number) >> 48),
     }
@@ -40,12 +41,14 @@ impl Links<'_> {
         (from..to).all(|index| (self.blank)(index))
     }
 
-    /// §8.4: the next of `id` is right if `following` comes after it. §8.5: nothing stands from a capped landing up to
-    /// that one.
+    /// §8.4, §8.6: the next of `id` is right if `following` comes after it. §8.5: nothing stands from a capped landing
+    /// up to that one.
     fn leads(&self, id: u64, following: u64) -> bool {
         let distance = following - id;
-        let capped = distance <= self.cap || self.all_blank(id + self.cap, following);
-        (self.next)(id) == distance.min(self.cap) && capped
+        match self.cap.filter(|cap| distance > *cap) {
+            Some(cap) => (self.next)(id) == cap && self.all_blank(id + cap, following),
+            None => (self.next)(id) == distance,
+        }
     }
 
     /// §8.3 to §8.5, for an ITT §8.6: the IDs have valid entries, below the first all are blank, each next is right.

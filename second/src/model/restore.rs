@@ -3,7 +3,7 @@
 use super::answer::{refuse_if, Answer, Refusal};
 use super::guest::{Area, Guest};
 use super::its::{Device, Event, Mapping, Table, Tables, COLLECTION_LIMIT, DEVICE_LIMIT, ENTRY, EVENT_LIMIT};
-use super::tables::{take, DEVICE_CAP, EVENT_CAP};
+use super::tables::{take, DEVICE_CAP};
 
 /// All that a restore depends on (§8.1).
 pub struct World<'a> {
@@ -26,7 +26,6 @@ struct Linked<'a> {
     world: &'a World<'a>,
     start: u64,
     entries: u64,
-    cap: u64,
     valid: fn(u64) -> bool,
 }
 
@@ -61,11 +60,16 @@ impl Linked<'_> {
         }
         let landing = index + next;
         refuse_if(landing >= self.entries, Refusal::Invalid)?;
-        if next < self.cap {
-            refuse_if(!self.stands(landing), Refusal::Invalid)?;
-            return Ok(Some(landing));
+        refuse_if(!self.stands(landing), Refusal::Invalid)?;
+        Ok(Some(landing))
+    }
+
+    /// §9.6: the one exception, in the device table.
+    fn follow_device(&self, id: u64, next: u64) -> Result<Option<u64>, Refusal> {
+        if next != DEVICE_CAP {
+            return self.follow(id, next);
         }
-        self.first_from(landing).ok_or(Refusal::Invalid).map(Some)
+        self.first_from(id + next).ok_or(Refusal::Invalid).map(Some)
     }
 }
 
@@ -89,11 +93,11 @@ fn read_collections(world: &World, mapping: &mut Mapping) -> Result<(), Refusal>
 /// §9.3, §9.5: the next comes first, and before the following device all the events.
 fn read_devices(world: &World, mapping: &mut Mapping) -> Result<(), Refusal> {
     let table = world.tables.devices;
-    let linked = Linked { world, start: table.start, entries: table.entries(), cap: DEVICE_CAP, valid: device_valid };
+    let linked = Linked { world, start: table.start, entries: table.entries(), valid: device_valid };
     let mut at = linked.first_from(0);
     while let Some(id) = at {
         let entry = linked.entry(id);
-        let following = linked.follow(id, take(entry, 62, 49))?;
+        let following = linked.follow_device(id, take(entry, 62, 49))?;
         let device = Device { itt: take(entry, 48, 5) << 8, bits: take(entry, 4, 0) + 1 };
         check_device(world, mapping, &device)?;
         mapping.devices.insert(id, device);
@@ -115,7 +119,7 @@ fn check_device(world: &World, mapping: &Mapping, device: &Device) -> Result<(),
 
 /// §9.7.
 fn read_events(world: &World, mapping: &mut Mapping, id: u64, device: &Device) -> Result<(), Refusal> {
-    let linked = Linked { world, start: device.itt, entries: 1 << device.bits, cap: EVENT_CAP, valid: event_valid };
+    let linked = Linked { world, start: device.itt, entries: 1 << device.bits, valid: event_valid };
     let mut at = linked.first_from(0);
     while let Some(number) = at {
         let entry = linked.entry(number);

@@ -4,10 +4,8 @@ use super::answer::{refuse_if, Answer, Refusal};
 use super::guest::Guest;
 use super::its::{Device, Event, Tables, ENTRY};
 
-/// §7.2: the cap in the device table.
+/// §7.2: the cap, in the device table alone.
 pub const DEVICE_CAP: u64 = 16_383;
-/// §7.2: the cap in an ITT.
-pub const EVENT_CAP: u64 = 65_535;
 
 /// §2.11: puts `value` at bits [high:low].
 fn put(value: u64, high: u32, low: u32) -> u64 {
@@ -36,10 +34,10 @@ pub fn event_entry(event: &Event, next: u64) -> u64 {
     put(next, 63, 48) | put(event.lpi, 47, 16) | put(event.icid, 15, 0)
 }
 
-/// §7.2.
-fn next_of(ids: &[u64], place: usize, cap: u64) -> u64 {
+/// §7.2: how far the following ID is away, 0 at the last one. In an ITT this is next as it stands.
+fn distance(ids: &[u64], place: usize) -> u64 {
     match ids.get(place + 1) {
-        Some(following) => (following - ids[place]).min(cap),
+        Some(following) => following - ids[place],
         None => 0,
     }
 }
@@ -67,7 +65,7 @@ impl Guest {
     fn saved_devices(&self) -> Vec<(u64, u64)> {
         let devices = &self.its.mapping.devices;
         let ids: Vec<u64> = devices.keys().copied().collect();
-        let entry = |(n, id): (usize, &u64)| (*id, device_entry(&devices[id], next_of(&ids, n, DEVICE_CAP)));
+        let entry = |(n, id): (usize, &u64)| (*id, device_entry(&devices[id], distance(&ids, n).min(DEVICE_CAP)));
         ids.iter().enumerate().map(entry).collect()
     }
 
@@ -81,8 +79,7 @@ impl Guest {
     fn saved_events(&self, id: u64) -> Vec<(u64, u64)> {
         let events = &self.its.mapping.events;
         let ids: Vec<u64> = events.keys().filter(|key| key.0 == id).map(|key| key.1).collect();
-        let entry =
-            |(n, number): (usize, &u64)| (*number, event_entry(&events[&(id, *number)], next_of(&ids, n, EVENT_CAP)));
+        let entry = |(n, number): (usize, &u64)| (*number, event_entry(&events[&(id, *number)], distance(&ids, n)));
         ids.iter().enumerate().map(entry).collect()
     }
 

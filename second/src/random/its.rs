@@ -2,7 +2,7 @@
 
 use super::life::look_now_and_then;
 use super::pair::Pair;
-use super::{calls, pick};
+use super::{calls, far, pick};
 use crate::call::{Call, Device};
 use crate::model::guest::Area;
 use crate::model::its::{DEVICE_LIMIT, EVENT_LIMIT};
@@ -92,6 +92,7 @@ fn save(pair: &mut Pair) {
     if let Some((0, after)) = pair.make(Call::Save, memory) {
         pair.memory = after;
         pair.tables[0] += 1;
+        pair.far.saved += far::apart(&pair.guest().its.mapping) as u64;
     }
 }
 
@@ -111,6 +112,9 @@ pub fn lent_memory(pair: &mut Pair) -> Vec<u8> {
 
 /// Many mappings at once, so that limits are met.
 fn fill(pair: &mut Pair) {
+    if pair.rng.one_in(4) {
+        far::map(pair);
+    }
     if pair.rng.one_in(6) {
         for _ in 0..18 {
             let icid = if pair.rng.one_in(2) { pair.rng.below(40) } else { pair.rng.below(65_536) };
@@ -129,16 +133,20 @@ fn fill(pair: &mut Pair) {
     }
 }
 
-/// Maps a new device where there is room, if there is any: at the start of memory or right after another table.
-fn good_device(pair: &mut Pair, bits: u64) {
-    let areas = table_areas(pair);
-    let memory = pair.guest().memory;
+/// Where an ITT has room beside other tables: at the start of memory or right after one of them.
+pub fn free_starts(memory: Area, areas: &[Area], bits: u64) -> Vec<u64> {
     let mut starts: Vec<u64> = areas.iter().map(|area| (area.end as u64).div_ceil(256) * 256).collect();
     starts.push(memory.start as u64);
     starts.retain(|start| {
         let area = Area::new(*start, 8 << bits);
         area.inside(&memory) && !areas.iter().any(|other| other.overlaps(&area))
     });
+    starts
+}
+
+/// Maps a new device where there is room, if there is any.
+pub fn good_device(pair: &mut Pair, bits: u64) {
+    let starts = free_starts(pair.guest().memory, &table_areas(pair), bits);
     if !starts.is_empty() {
         let entries = pair.guest().its.tables.map_or(1, |tables| tables.devices.entries());
         let device = if pair.rng.one_in(4) { new_device(pair) } else { pair.rng.below(entries) };

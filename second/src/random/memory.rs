@@ -1,17 +1,19 @@
 //! Memory for restore: what a save left or a mapping written out entry by entry, then spoilt here and there.
 //! Each restore (part 9) is also held against what the bytes describe (part 8).
 
+use super::far;
 use super::its::lent_memory;
+use super::long::{self, Long};
 use super::pair::Pair;
 use crate::call::Call;
 use crate::model::described::{described, describes};
 use crate::model::its::{Mapping, Tables};
 
-/// Entries of a linked table, as written: index and entry.
-struct Image {
+/// Memory into which entries are put, and where it and the tables lie.
+pub struct Image {
     bytes: Vec<u8>,
     start: u64,
-    tables: Tables,
+    pub tables: Tables,
 }
 
 impl Image {
@@ -21,7 +23,7 @@ impl Image {
         (at + 8 <= self.bytes.len()).then_some(at..at + 8)
     }
 
-    fn put(&mut self, table: u64, index: u64, entry: u64) {
+    pub fn put(&mut self, table: u64, index: u64, entry: u64) {
         if let Some(place) = self.place(table, index) {
             self.bytes[place].copy_from_slice(&entry.to_le_bytes());
         }
@@ -30,6 +32,16 @@ impl Image {
     fn entry(&self, table: u64, index: u64) -> u64 {
         self.place(table, index).map_or(0, |place| u64::from_le_bytes(self.bytes[place].try_into().expect("8 bytes")))
     }
+
+    pub fn clear(&mut self, table: u64, entries: u64) {
+        (0..entries).for_each(|index| self.put(table, index, 0));
+    }
+
+    pub fn clear_tables(&mut self) {
+        let Tables { devices, collections } = self.tables;
+        self.clear(devices.start, devices.entries());
+        self.clear(collections.start, collections.entries());
+    }
 }
 
 pub fn restore(pair: &mut Pair) {
@@ -37,14 +49,19 @@ pub fn restore(pair: &mut Pair) {
         pair.make(Call::Stop, vec![]);
     }
     let tables = pair.guest().its.tables;
-    let memory = match tables {
-        Some(tables) if !pair.memory.is_empty() => spoilt_image(pair, tables),
-        _ => lent_memory(pair),
+    let (memory, long) = match tables {
+        Some(tables) if !pair.memory.is_empty() => make_image(pair, tables),
+        _ => (lent_memory(pair), None),
     };
     let expected = expect(pair, &memory);
+    let read = expected.is_some();
     let Some((answer, _)) = pair.make(Call::Restore, memory.clone()) else { return };
     check(pair, answer, expected, &memory);
-    if answer == 0 && pair.rng.one_in(2) {
+    if let Some(long) = long.as_ref().filter(|_| read) {
+        long.check(pair, answer);
+    }
+    // A long next stays in memory, to be spoilt or saved over.
+    if long.is_some() || answer == 0 && pair.rng.one_in(2) {
         pair.memory = memory;
     }
 }
@@ -59,6 +76,7 @@ fn expect(pair: &Pair, memory: &[u8]) -> Option<Option<Mapping>> {
 fn check(pair: &mut Pair, answer: i64, expected: Option<Option<Mapping>>, memory: &[u8]) {
     let Some(expected) = expected else { return };
     pair.tables[if answer == 0 { 1 } else { 2 }] += 1;
+    pair.far.restored += (answer == 0 && far::apart(&pair.guest().its.mapping)) as u64;
     let guest = pair.guest();
     let tables = guest.its.tables.expect("placed");
     let note = match expected {
@@ -100,9 +118,19 @@ fn only_one(pair: &mut Pair, mapping: Mapping, memory: &[u8]) {
     }
 }
 
-fn spoilt_image(pair: &mut Pair, tables: Tables) -> Vec<u8> {
+/// An image of one long next, which stays as it is, or another, which is spoilt.
+fn make_image(pair: &mut Pair, tables: Tables) -> (Vec<u8>, Option<Long>) {
     let start = pair.guest().memory.start as u64;
     let mut image = Image { bytes: pair.memory.clone(), start, tables };
+    if pair.rng.one_in(3) {
+        if let Some(long) = long::write_out(pair, &mut image) {
+            return (image.bytes, Some(long));
+        }
+    }
+    (spoilt_image(pair, image), None)
+}
+
+fn spoilt_image(pair: &mut Pair, mut image: Image) -> Vec<u8> {
     match pair.rng.below(4) {
         0 => {}
         1 => {
@@ -118,7 +146,8 @@ fn spoilt_image(pair: &mut Pair, tables: Tables) -> Vec<u8> {
     image.bytes
 }
 
-/// Rising IDs below `limit`: one after another, close together, far apart, or around the cap.
+/// Rising IDs below `limit`: one after another, close together, far apart, around the devices' cap, or as far apart as
+/// events can be.
 fn rising(pair: &mut Pair, count: u64, limit: u64) -> Vec<u64> {
     if pair.rng.one_in(3) {
         return (0..count.min(limit)).collect();
@@ -138,16 +167,15 @@ fn rising(pair: &mut Pair, count: u64, limit: u64) -> Vec<u64> {
     ids
 }
 
-fn next(ids: &[u64], n: usize, cap: u64) -> u64 {
-    ids.get(n + 1).map_or(0, |following| (following - ids[n]).min(cap))
+/// §7.2, but for the devices' cap.
+fn distance(ids: &[u64], n: usize) -> u64 {
+    ids.get(n + 1).map_or(0, |following| following - ids[n])
 }
 
 /// Writes a mapping out entry by entry over cleared tables: often as large as the limits allow, or one more.
 fn write_out(pair: &mut Pair, image: &mut Image) {
     let tables = image.tables;
-    for table in [tables.devices, tables.collections] {
-        (0..table.entries()).for_each(|index| image.put(table.start, index, 0));
-    }
+    image.clear_tables();
     let vcpus = pair.guest().vcpus.len() as u64;
     let icids = pair.rng.pick(&[1, 2, 5, 16, 16, 17]);
     for n in 0..icids {
@@ -163,7 +191,8 @@ fn write_out(pair: &mut Pair, image: &mut Image) {
     let written = if pair.rng.one_in(5) { ids.len().saturating_sub(1) } else { ids.len() };
     for (n, id) in ids.iter().enumerate().take(written) {
         let bits = if pair.rng.one_in(8) { pair.rng.between(8, 16) } else { pair.rng.between(1, 6) };
-        image.put(tables.devices.start, *id, 1 << 63 | next(&ids, n, 16_383) << 49 | at >> 8 << 5 | (bits - 1));
+        let next = distance(&ids, n).min(16_383);
+        image.put(tables.devices.start, *id, 1 << 63 | next << 49 | at >> 8 << 5 | (bits - 1));
         write_events(pair, image, at, bits, icids, &mut budget);
         at = (at + (8 << bits)).div_ceil(256) * 256;
     }
@@ -179,7 +208,7 @@ fn free_start(pair: &mut Pair, tables: Tables) -> u64 {
 }
 
 fn write_events(pair: &mut Pair, image: &mut Image, itt: u64, bits: u64, icids: u64, budget: &mut u64) {
-    (0..1u64 << bits).for_each(|index| image.put(itt, index, 0));
+    image.clear(itt, 1 << bits);
     let count = (*budget).min(pair.rng.pick(&[0, 1, 3, 64, 400, 1025]));
     let ids = rising(pair, count, 1 << bits);
     *budget -= ids.len() as u64;
@@ -187,7 +216,7 @@ fn write_events(pair: &mut Pair, image: &mut Image, itt: u64, bits: u64, icids: 
     for (n, id) in ids.iter().enumerate().take(written) {
         let icid = pair.rng.below(icids) * 37 % 101;
         let lpi = pair.rng.between(8192, 65_535);
-        image.put(itt, *id, next(&ids, n, 65_535) << 48 | lpi << 16 | icid);
+        image.put(itt, *id, distance(&ids, n) << 48 | lpi << 16 | icid);
     }
 }
 

@@ -4,9 +4,13 @@ mod attributes;
 mod calls;
 mod damage;
 #[cfg(feature = "its")]
+mod far;
+#[cfg(feature = "its")]
 mod its;
 mod lengths;
 mod life;
+#[cfg(feature = "restore")]
+mod long;
 #[cfg(feature = "restore")]
 mod memory;
 mod observe;
@@ -43,6 +47,8 @@ struct Depth {
     tables: [u64; 3],
     #[cfg(feature = "its")]
     full_mappings: [u64; 3],
+    #[cfg(feature = "its")]
+    far: far::Reach,
 }
 
 impl Depth {
@@ -65,6 +71,7 @@ impl Depth {
             self.tables[n] += pair.tables[n];
             self.full_mappings[n] += pair.full[n] as u64;
         }
+        self.far.add(&pair.far);
     }
 
     fn tell(&self, seed: u64) {
@@ -82,6 +89,8 @@ impl Depth {
             self.full_mappings[1],
             self.full_mappings[2]
         );
+        #[cfg(feature = "its")]
+        self.far.tell();
         self.tally.tell();
     }
 }
@@ -96,6 +105,8 @@ pub fn run(seed: u64, calls: u64, hunt: bool, report: &mut Report) {
     depth.tell(seed);
     if cfg!(feature = "its") && calls >= DEFAULT_CALLS && !hunt {
         check_reach(&depth.tally, report);
+        #[cfg(feature = "restore")]
+        depth.far.check(report);
     }
 }
 

@@ -1,6 +1,8 @@
 //! The library and the model side by side. A sequence stops at the first difference.
 
 use super::damage::{agree, Tally};
+#[cfg(feature = "its")]
+use super::far;
 use crate::call::{Call, ITS_STEPS};
 use crate::model::{Guest, Model};
 use crate::rng::Rng;
@@ -29,6 +31,9 @@ pub struct Pair {
     /// Whether collections, devices and events were at their limits at some step.
     #[cfg(feature = "its")]
     pub full: [bool; 3],
+    /// Events that are far apart.
+    #[cfg(feature = "its")]
+    pub far: far::Reach,
     tell: bool,
 }
 
@@ -68,6 +73,8 @@ impl Pair {
             tables: [0; 3],
             #[cfg(feature = "its")]
             full: [false; 3],
+            #[cfg(feature = "its")]
+            far: far::Reach::default(),
             tell,
         }
     }

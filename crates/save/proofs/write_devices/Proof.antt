@@ -49,8 +49,8 @@ add-past c =
     let a = c .before .before .before in
     omega (arith, high a, a .before .before .before .before .before .before .pre .1 .room)
 
-distance-requires : tie.Need-distance-requires Inv-loop μ-loop
-distance-requires c κs = search needs
+device-next-requires : tie.Need-device-next-requires Inv-loop μ-loop
+device-next-requires c κs = search needs
 
 device-word-requires : tie.Need-device-word-requires Inv-loop μ-loop
 device-word-requires c κs =
@@ -82,7 +82,7 @@ loop-again c =
     let t = a .before in
     let n = t .before .before in
     write-row deviceKey deviceEntry deviceCap _ _ _ _ (n .before .before .before .pre .1 .room) _ _ _ noDevice _ _ _ _ _ _ _ _ (n .device-count .ensures) (t .loop-test .taken)
-    (t .before .loop .inv) (a .device-at .ensures) (r .row-after .ensures .0) (b .device-at2 .ensures) (o .distance .ensures) (w .before .device-word .ensures)
+    (t .before .loop .inv) (a .device-at .ensures) (r .row-after .ensures .0) (b .device-at2 .ensures) (o .device-next .ensures) (w .before .device-word .ensures)
     (w .write-next .kept .0) (w .write-next .ensures)
 
 write-blanks-requires : tie.Need-write-blanks-requires Inv-loop μ-loop
@@ -111,7 +111,7 @@ write-devices-spec =
     row-after-requires
     device-at-requires-2
     add-past
-    distance-requires
+    device-next-requires
     device-word-requires
     write-next-requires
     add-j

@@ -5,7 +5,7 @@ use lib.ListN.{take, drop}
 use borrow.Author.Needs.{needs}
 use Rattle.mapping.specs.Mapped.{noEvent}
 use Rattle.maplayout.specs.MapLayout.{decodeMap}
-use Rattle.tables.specs.Bytes.{eventCap}
+use Rattle.chains.specs.Slots.{uncapped}
 use Rattle.tables.specs.Saved.{eventEntry, eventId}
 use Rattle.save.specs.Saving.{eventRun}
 use Rattle.save.proofs.Rows.{run-count, run-row}
@@ -15,7 +15,7 @@ use Rattle.save.proofs.write_events.Tie as tie
 
 abbrev Inv-loop : tie.InvT-loop
 Inv-loop s mem₀ at n from to i₀ j₀ mem i j =
-    Writing eventId eventEntry eventCap n (eventRun (decodeMap s .events) from to) mem₀ at (drop j (take to (decodeMap s .events))) mem i
+    Writing eventId eventEntry uncapped n (eventRun (decodeMap s .events) from to) mem₀ at (drop j (take to (decodeMap s .events))) mem i
 
 abbrev μ-loop : tie.MeasureT-loop
 μ-loop s mem₀ at n from to i₀ j₀ mem i j = to - j
@@ -86,7 +86,7 @@ loop-again c =
     let a = r .before in
     let t = a .before in
     let s = t .before .before .before .before in
-    write-row eventId eventEntry eventCap _ _ _ _ (s .pre .1 .room) _ _ _ noEvent _ _ _ _ _ _ _ _ (run-count _ _ (s .pre .1 .most)) (t .loop-test .taken)
+    write-row eventId eventEntry uncapped _ _ _ _ (s .pre .1 .room) _ _ _ noEvent _ _ _ _ _ _ _ _ (run-count _ _ (s .pre .1 .most)) (t .loop-test .taken)
     (t .before .loop .inv) (run-row _ _ _ _ _ (t .loop-test .taken) (a .event-at .ensures)) (r .row-after .ensures .0)
     (run-row _ _ _ _ _ (r .row-after .ensures .1) (b .event-at2 .ensures)) (o .distance .ensures) (w .before .event-word .ensures) (w .write-next .kept .0) (w .write-next .ensures)
 
@@ -101,7 +101,7 @@ returns c =
     let w = c .before .before in
     let t = w .before .before in
     let s = t .before .before .before .before in
-    write-end eventId eventEntry eventCap _ _ _ _ (s .pre .1 .room) _ _ _ _ _ _ (run-count _ _ (s .pre .1 .most)) (t .loop-test .left) (t .before .loop .inv) (w .write-blanks .ensures)
+    write-end eventId eventEntry uncapped _ _ _ _ (s .pre .1 .room) _ _ _ _ _ _ (run-count _ _ (s .pre .1 .most)) (t .loop-test .left) (t .before .loop .inv) (w .write-blanks .ensures)
 
 pub write-events-spec : {M : Type 1} → statement M
 write-events-spec =

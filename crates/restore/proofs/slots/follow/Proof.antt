@@ -1,5 +1,6 @@
 -- `restore::slots::follow` meets its contract. Assumes nothing.
 use native.Mathlib.Omega.{arith}
+use mathlib.Core.Path.{sym, _∙_}
 use borrow.Author.Needs.{needs}
 use Rattle.restore.proofs.Both.{leads-last, leads-out, leads-near, leads-blank, leads-far, leads-none}
 use Rattle.restore.proofs.slots.follow.Statement.{statement}
@@ -27,8 +28,8 @@ returns-2 c =
 add-j : tie.Need-add-j
 add-j c = search needs
 
-cap-of-requires : tie.Need-cap-of-requires
-cap-of-requires c κs = search needs
+is-exact-requires : tie.Need-is-exact-requires
+is-exact-requires c κs = search needs
 
 entry-at-requires-2 : tie.Need-entry-at-requires-2
 entry-at-requires-2 c κs = search needs
@@ -42,7 +43,7 @@ returns-3 c =
     let g = x .before .before .before in
     let f = g .before .before in
     leads-near _ _ _ _ _ (f .before .entry-at .ensures) (f .next-of .ensures) (g .before .if1 .left) (omega (arith, g .if2 .left))
-    (rw (x .before .before .cap-of .ensures) at (x .before .if3 .taken)) _ _ (x .entry-at2 .ensures) (c .before .valid-of .ensures) (c .if4 .taken)
+    (sym (x .before .before .is-exact .ensures) ∙ x .before .if3 .taken) _ _ (x .entry-at2 .ensures) (c .before .valid-of .ensures) (c .if4 .taken)
 
 returns-4 : tie.Need-returns-4
 returns-4 c =
@@ -50,7 +51,7 @@ returns-4 c =
     let g = x .before .before .before in
     let f = g .before .before in
     leads-blank _ _ _ _ _ (f .before .entry-at .ensures) (f .next-of .ensures) (g .before .if1 .left) (omega (arith, g .if2 .left))
-    (rw (x .before .before .cap-of .ensures) at (x .before .if3 .taken)) _ _ (x .entry-at2 .ensures) (c .before .valid-of .ensures) (c .if4 .left)
+    (sym (x .before .before .is-exact .ensures) ∙ x .before .if3 .taken) _ _ (x .entry-at2 .ensures) (c .before .valid-of .ensures) (c .if4 .left)
 
 first-from-requires : tie.Need-first-from-requires
 first-from-requires c κs = search needs
@@ -61,7 +62,7 @@ returns-5 c =
     let g = x .before .before in
     let f = g .before .before in
     leads-far _ _ _ _ _ (f .before .entry-at .ensures) (f .next-of .ensures) (g .before .if1 .left) (omega (arith, g .if2 .left))
-    (rw (x .before .cap-of .ensures) at (x .if3 .left)) _ (c .before .first-from .ensures) (c .if5 .taken)
+    (sym (x .before .is-exact .ensures) ∙ x .if3 .left) _ (c .before .first-from .ensures) (c .if5 .taken)
 
 returns-6 : tie.Need-returns-6
 returns-6 c =
@@ -69,7 +70,7 @@ returns-6 c =
     let g = x .before .before in
     let f = g .before .before in
     leads-none _ _ _ _ _ (f .before .entry-at .ensures) (f .next-of .ensures) (g .before .if1 .left) (omega (arith, g .if2 .left))
-    (rw (x .before .cap-of .ensures) at (x .if3 .left)) _ (c .before .first-from .ensures) (c .if5 .left)
+    (sym (x .before .is-exact .ensures) ∙ x .if3 .left) _ (c .before .first-from .ensures) (c .if5 .left)
 
 pub follow-spec : {M : Type 1} → statement M
 follow-spec =
@@ -81,7 +82,7 @@ follow-spec =
     sub-if2
     returns-2
     add-j
-    cap-of-requires
+    is-exact-requires
     entry-at-requires-2
     valid-of-requires
     returns-3

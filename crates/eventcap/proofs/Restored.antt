@@ -1,0 +1,64 @@
+-- A restore reads the same, with the cap and without it, from every memory. Assumes nothing.
+use Prim.Native.Nat.{ℕ, zero, suc, _/_, _^_, _≤_}
+use native.Mathlib.Omega.{arith}
+use mathlib.Core.Path.{_≡_, refl, ap, _∙_, fun-ext}
+use mathlib.Core.Bool.{Bool, true, false}
+use mathlib.Core.List.{List, [], _∷_, _++_}
+use lib.ListN.{length, length-take}
+use lib.Dec.{leb}
+use lib.Pow.{pow-mono}
+use borrow.Author.Tests.{leb-true}
+use Rattle.guest.specs.Machine.{Machine}
+use Rattle.mapping.specs.declared.Device.{Device}
+use Rattle.mapping.specs.Mapped.{Mapped, empty}
+use Rattle.mapping.specs.Commands.{withDevices}
+use Rattle.chains.specs.Slots.{Slots, firstFrom, following, Path, onward, path}
+use Rattle.tables.specs.Bytes.{areaBytes, deviceTable, collectionTable, ittTable, deviceSlots, eventSlots}
+use Rattle.tables.specs.Restored.{Out, andThen, walk, readCollections, visitEvent, readEvents, deviceAt, visitDevice, readDevices, restored}
+use Rattle.eventcap.proofs.Capped.{deviceLimit, eventLimit, cappedFollowing, cappedPath, cappedWalk, cappedEvents, cappedVisit, cappedDevices, cappedRestored}
+use Rattle.eventcap.proofs.Ways.{device-ways, event-ways}
+
+-- what leads the same way is walked the same way
+module _ (cap : ℕ) (T : Slots) (ways : (i : ℕ) → cappedFollowing cap T i ≡ following T i) where
+  path-same : (fuel i : ℕ) → cappedPath cap T fuel i ≡ path T fuel i
+  unfolding cappedPath path
+  path-same zero i = refl
+  path-same (suc fuel) i = rw (ways i) (ap (λ (rest : ℕ → Path). onward i rest (following T i)) (fun-ext (λ j. path-same fuel j)))
+
+  walk-same : (v : ℕ → Mapped → Out) (k : Mapped) → cappedWalk cap T v k ≡ walk T v k
+  unfolding cappedWalk walk
+  walk-same v k = rw (path-same (T .size) (firstFrom T 0))
+
+-- the ITT of a device has at most 65,536 entries, however much of it is in memory
+pub itt-few : (m : Machine) (mem : List ℕ) (d : Device) → d .bits ≤ 16 → length (ittTable m mem d) / 8 ≤ 65536
+unfolding areaBytes
+itt-few m mem d h =
+    let p : 2 ^ d .bits ≤ 2 ^ 16 = pow-mono h in
+    simp length-take (omega arith)
+
+events-same : (t : List ℕ) → length t / 8 ≤ 65536 → (id : ℕ) (k : Mapped) → cappedEvents t id k ≡ readEvents t id k
+unfolding cappedEvents readEvents
+events-same t few id k = walk-same eventLimit (eventSlots t) (event-ways t few) (visitEvent t id) k
+
+-- size is tested before the events are read
+visit-same : (m : Machine) (mem t : List ℕ) (i : ℕ) (k : Mapped) → cappedVisit m mem t i k ≡ visitDevice m mem t i k
+unfolding cappedVisit visitDevice
+visit-same m mem t i k = by (leb (deviceAt t i .bits) 16) refl
+  where
+    by : (b : Bool) → leb (deviceAt t i .bits) 16 ≡ b → cappedVisit m mem t i k ≡ visitDevice m mem t i k
+    by true e = rw (events-same (ittTable m mem (deviceAt t i)) (itt-few m mem (deviceAt t i) (leb-true (deviceAt t i .bits) 16 e)) i (withDevices (k .devices ++ (deviceAt t i ∷ [])) k))
+    by false e = rw e
+
+module _ (m : Machine) (mem : List ℕ) where
+  devices-same : (k : Mapped) → cappedDevices m mem k ≡ readDevices m mem k
+  unfolding cappedDevices readDevices
+  devices-same k =
+      let t = deviceTable m mem in
+      walk-same deviceLimit (deviceSlots t) (device-ways t) (cappedVisit m mem t) k
+      ∙ ap (λ (v : ℕ → Mapped → Out). walk (deviceSlots t) v k) (fun-ext (λ i. fun-ext (λ h. visit-same m mem t i h)))
+
+  pub restored-same : cappedRestored m mem ≡ restored m mem
+  unfolding cappedRestored restored
+  restored-same =
+      let t = collectionTable m mem in
+      ap (andThen (readCollections m t (length t / 8) 0 empty)) (fun-ext devices-same)
