@@ -8,7 +8,7 @@
 #include "plain.h"
 #include "ritikancha.h"
 
-enum kind { LINE, LOOKUP, SAVE, RESTORE };
+enum kind { LINE, LOOKUP, SAVE, RESTORE, EXPLAIN };
 
 /* one call: its numbers, and how much longer than they are the state and the memory are said to be */
 struct call {
@@ -38,8 +38,10 @@ static int64_t call_library(struct side *s, const struct call *q)
         return rk_its_lookup(s->state, state_len, q->a, q->b);
     case SAVE:
         return rk_its_save(s->state, state_len, s->memory, memory_len);
-    default:
+    case RESTORE:
         return rk_its_restore(s->state, state_len, s->memory, memory_len);
+    default:
+        return rk_its_explain(s->state, state_len, s->memory, memory_len);
     }
 }
 
@@ -54,8 +56,10 @@ static int64_t call_plain(struct side *s, const struct call *q)
         return plain_lookup(s->state, state_len, q->a, q->b);
     case SAVE:
         return plain_save(s->state, state_len, s->memory, memory_len);
-    default:
+    case RESTORE:
         return plain_restore(s->state, state_len, s->memory, memory_len);
+    default:
+        return plain_explain(s->state, state_len, s->memory, memory_len);
     }
 }
 
@@ -65,7 +69,7 @@ static int64_t both(const struct call *q, const char *what)
     int64_t answer = call_library(&library, q);
     int64_t other = call_plain(&plain, q);
     bool same = answer == other && memcmp(library.state, plain.state, STATE_BYTES) == 0;
-    if (q->kind == SAVE || q->kind == RESTORE)
+    if (q->kind == SAVE || q->kind == RESTORE || q->kind == EXPLAIN)
         same = same && memcmp(library.memory, plain.memory, library.memory_len) == 0;
     compared++;
     if (same)
@@ -122,10 +126,11 @@ static void check_lookups(const struct guest *g)
 /* Each save is onto old bytes; each restore is into a state whose mapping is empty, with old bytes in the place of its rows. */
 static void check_tables(const struct guest *g)
 {
-    static const struct call save = {.kind = SAVE}, restore = {.kind = RESTORE};
+    static const struct call save = {.kind = SAVE}, restore = {.kind = RESTORE}, explain = {.kind = EXPLAIN};
     uint8_t emptied[STATE_BYTES];
     lend(g);
     both_answer(0, &save, "save");
+    both_answer(0, &explain, "explain");
     memcpy(emptied, g->state, STATE_BYTES);
     fill_old(emptied + AT_MAPPING, MAPPING_BYTES);
     memset(emptied + AT_MAPPING, 0, AT_DEVICES);
@@ -182,6 +187,10 @@ static const struct refused {
     {"save before ITS INIT", SMALL, -6, {.kind = SAVE}},
     {"restore from memory of a wrong length", SOME, -14, {.kind = RESTORE, .memory_more = -8}},
     {"restore before ITS INIT", SMALL, -6, {.kind = RESTORE}},
+    {"explain of a state of a wrong length", SOME, -14, {.kind = EXPLAIN, .state_more = -1}},
+    {"explain of memory of a wrong length", SOME, -14, {.kind = EXPLAIN, .memory_more = -8}},
+    {"explain before ITS INIT", SMALL, -6, {.kind = EXPLAIN}},
+    {"explain before ITS INIT of memory of a wrong length", SMALL, -14, {.kind = EXPLAIN, .memory_more = -8}},
 };
 
 static void check_refused(void)
@@ -194,12 +203,15 @@ static void check_refused(void)
 
 static void check_running(void)
 {
-    static const struct call save = {.kind = SAVE}, restore = {.kind = RESTORE};
+    static const struct call save = {.kind = SAVE}, restore = {.kind = RESTORE}, explain = {.kind = EXPLAIN};
+    static const struct call explain_short = {.kind = EXPLAIN, .memory_more = -8};
     lend(&guests[SOME]);
     need(rk_vcpus_start(library.state, STATE_BYTES) == 0, "a guest could not be started");
     memcpy(plain.state, library.state, STATE_BYTES);
     both_answer(-16, &save, "save while running");
     both_answer(-16, &restore, "restore while running");
+    both_answer(-16, &explain, "explain while running");
+    both_answer(-14, &explain_short, "explain while running of memory of a wrong length");
 }
 
 /* ---- damaged states */
@@ -291,7 +303,7 @@ static void put_edit(uint8_t *state, const struct edit *e)
 
 static void check_damages(void)
 {
-    static const struct call up = {.kind = LINE, .b = 40, .c = 1}, lookup = {.kind = LOOKUP, .a = 8};
+    static const struct call up = {.kind = LINE, .b = 40, .c = 1}, lookup = {.kind = LOOKUP, .a = 8}, explain = {.kind = EXPLAIN};
     uint8_t state[STATE_BYTES];
     for (size_t i = 0; i < sizeof damages / sizeof damages[0]; i++) {
         memcpy(state, guests[damages[i].guest].state, STATE_BYTES);
@@ -302,6 +314,7 @@ static void check_damages(void)
         lend_state(state);
         both_answer(-22, &up, damages[i].what);
         both_answer(-22, &lookup, damages[i].what);
+        both_answer(-22, &explain, damages[i].what);
     }
 }
 
@@ -345,57 +358,91 @@ struct words {
 #define COLLECTIONS_AT(i) (0x80000 + (i) * (size_t)8)
 #define ITT_AT(i) (0x100000 + (i) * (size_t)8)
 
-/* what the tables of guest b hold beside zeros, and the answer to a restore of it: first samples of docs/DEFINITION.md, part 12, then each fault */
+/* the code of a fault (§13.6), by the fault's name in the header */
+#define CODE(fault, table, device, entry) ((int64_t)(fault) << 40 | (int64_t)(table) << 32 | (int64_t)(device) << 16 | (entry))
+#define IN_COLLECTIONS(fault, entry) CODE(RK_FAULT_##fault, RK_TABLE_COLLECTIONS, 0, entry)
+#define IN_DEVICES(fault, entry) CODE(RK_FAULT_##fault, RK_TABLE_DEVICES, 0, entry)
+#define IN_ITT(fault, device, entry) CODE(RK_FAULT_##fault, RK_TABLE_ITT, device, entry)
+
+/* what the tables of guest b hold beside zeros, the answer to a restore of it and the code of its first fault: first samples of
+ * docs/DEFINITION.md, part 12, then each fault, then two faults of which one comes first */
 static const struct tables {
     const char *what;
-    int64_t due;
+    int64_t due, code;
     struct words words[4];
 } tables[] = {
-    {"all-zero tables", 0, {{0, 0, 0, 0}}},
-    {"devices 0 and 16,383", 0,
+    {"all-zero tables", 0, 0, {{0, 0, 0, 0}}},
+    {"devices 0 and 16,383", 0, 0,
      {{DEVICES_AT(0), 1, DEVICE_WORD(16383, ITT(0), 5), 0}, {DEVICES_AT(16383), 1, DEVICE_WORD(0, ITT(1), 5), 0}}},
-    {"devices 0 and 20,000", 0,
+    {"devices 0 and 20,000", 0, 0,
      {{DEVICES_AT(0), 1, DEVICE_WORD(16383, ITT(0), 5), 0}, {DEVICES_AT(20000), 1, DEVICE_WORD(0, ITT(1), 5), 0}}},
-    {"next 16,382 onto a blank", -22,
+    {"next 16,382 onto a blank", -22, IN_DEVICES(NEXT, 0),
      {{DEVICES_AT(0), 1, DEVICE_WORD(16382, ITT(0), 5), 0}, {DEVICES_AT(16383), 1, DEVICE_WORD(0, ITT(1), 5), 0}}},
-    {"next 16,383 and nothing valid behind", -22, {{DEVICES_AT(0), 1, DEVICE_WORD(16383, ITT(0), 5), 0}}},
-    {"next out of the table", -22, {{DEVICES_AT(65530), 1, DEVICE_WORD(6, ITT(0), 5), 0}}},
-    {"the first device far up", 0, {{DEVICES_AT(65535), 1, DEVICE_WORD(0, ITT(0), 5), 0}}},
-    {"bits 3, event 5, next 3", -22,
+    {"next 16,383 and nothing valid behind", -22, IN_DEVICES(NEXT, 0), {{DEVICES_AT(0), 1, DEVICE_WORD(16383, ITT(0), 5), 0}}},
+    {"next out of the table", -22, IN_DEVICES(NEXT, 65530), {{DEVICES_AT(65530), 1, DEVICE_WORD(6, ITT(0), 5), 0}}},
+    {"the first device far up", 0, 0, {{DEVICES_AT(65535), 1, DEVICE_WORD(0, ITT(0), 5), 0}}},
+    {"bits 3, event 5, next 3", -22, IN_ITT(NEXT, 0, 5),
      {{COLLECTIONS_AT(0), 1, V, 0}, {DEVICES_AT(0), 1, DEVICE_WORD(0, ITT(0), 3), 0}, {ITT_AT(5), 1, EVENT_WORD(3, 8192, 0), 0}}},
-    {"one of each", 0,
+    {"one of each", 0, 0,
      {{COLLECTIONS_AT(0), 1, V, 0}, {DEVICES_AT(0), 1, DEVICE_WORD(0, ITT(0), 3), 0}, {ITT_AT(5), 1, EVENT_WORD(0, 8192, 0), 0}}},
-    {"16 collections", 0, {{COLLECTIONS_AT(0), 16, V | 15, (uint64_t)-1}}},
-    {"17 collections", -12, {{COLLECTIONS_AT(0), 17, V, 1}}},
-    {"17th collection of no VCPU", -22, {{COLLECTIONS_AT(0), 16, V, 1}, {COLLECTIONS_AT(16), 1, V | 4 << 16 | 16, 0}}},
-    {"pe of 36 bits", -22, {{COLLECTIONS_AT(0), 1, V | UINT64_C(1) << 51, 0}}},
-    {"bits [62:52] of a collection", 0, {{COLLECTIONS_AT(0), 1, V | UINT64_C(0x7ff) << 52, 0}}},
-    {"an ICID twice", -22, {{COLLECTIONS_AT(0), 2, V, 1 << 16}}},
-    {"17 bits of events", -22, {{DEVICES_AT(0), 1, DEVICE_WORD(0, ITT(0), 17), 0}}},
-    {"34 devices", -12, {{DEVICES_AT(0), 34, DEVICE_WORD(1, ITT(0), 5), 1 << 5}}},
-    {"33rd device with a bad next", -22, {{DEVICES_AT(0), 33, DEVICE_WORD(1, ITT(0), 5), 1 << 5}}},
-    {"an ITT that leaves memory", -14, {{DEVICES_AT(0), 1, DEVICE_WORD(0, ITT(15), 14), 0}}},
-    {"an ITT over the device table", -22, {{DEVICES_AT(0), 1, DEVICE_WORD(0, UINT64_C(0x4007ff00), 5), 0}}},
-    {"two devices with one ITT", -22,
+    {"16 collections", 0, 0, {{COLLECTIONS_AT(0), 16, V | 15, (uint64_t)-1}}},
+    {"17 collections", -12, IN_COLLECTIONS(17TH, 16), {{COLLECTIONS_AT(0), 17, V, 1}}},
+    {"17th collection of no VCPU", -22, IN_COLLECTIONS(PE, 16),
+     {{COLLECTIONS_AT(0), 16, V, 1}, {COLLECTIONS_AT(16), 1, V | 4 << 16 | 16, 0}}},
+    {"pe of 36 bits", -22, IN_COLLECTIONS(PE, 0), {{COLLECTIONS_AT(0), 1, V | UINT64_C(1) << 51, 0}}},
+    {"bits [62:52] of a collection", 0, 0, {{COLLECTIONS_AT(0), 1, V | UINT64_C(0x7ff) << 52, 0}}},
+    {"an ICID twice", -22, IN_COLLECTIONS(REPEAT, 1), {{COLLECTIONS_AT(0), 2, V, 1 << 16}}},
+    {"17 bits of events", -22, IN_DEVICES(SIZE, 0), {{DEVICES_AT(0), 1, DEVICE_WORD(0, ITT(0), 17), 0}}},
+    {"34 devices", -12, IN_DEVICES(33RD, 32), {{DEVICES_AT(0), 34, DEVICE_WORD(1, ITT(0), 5), 1 << 5}}},
+    {"33rd device with a bad next", -22, IN_DEVICES(NEXT, 32), {{DEVICES_AT(0), 33, DEVICE_WORD(1, ITT(0), 5), 1 << 5}}},
+    {"an ITT that leaves memory", -14, IN_DEVICES(OUTSIDE, 0), {{DEVICES_AT(0), 1, DEVICE_WORD(0, ITT(15), 14), 0}}},
+    {"an ITT over the device table", -22, IN_DEVICES(OVERLAP, 0), {{DEVICES_AT(0), 1, DEVICE_WORD(0, UINT64_C(0x4007ff00), 5), 0}}},
+    {"two devices with one ITT", -22, IN_DEVICES(OVERLAP, 1),
      {{DEVICES_AT(0), 1, DEVICE_WORD(1, ITT(0), 5), 0}, {DEVICES_AT(1), 1, DEVICE_WORD(0, ITT(0), 5), 0}}},
-    {"an LPI below 8,192", -22,
+    {"an LPI below 8,192", -22, IN_ITT(LPI, 0, 0),
      {{COLLECTIONS_AT(0), 1, V, 0}, {DEVICES_AT(0), 1, DEVICE_WORD(0, ITT(0), 5), 0}, {ITT_AT(0), 1, EVENT_WORD(0, 8191, 0), 0}}},
-    {"an LPI above 65,535", -22,
+    {"an LPI above 65,535", -22, IN_ITT(LPI, 0, 0),
      {{COLLECTIONS_AT(0), 1, V, 0}, {DEVICES_AT(0), 1, DEVICE_WORD(0, ITT(0), 5), 0}, {ITT_AT(0), 1, EVENT_WORD(0, 73728, 0), 0}}},
-    {"an event of no collection", -22,
+    {"an event of no collection", -22, IN_ITT(ICID, 0, 0),
      {{COLLECTIONS_AT(0), 1, V, 0}, {DEVICES_AT(0), 1, DEVICE_WORD(0, ITT(0), 5), 0}, {ITT_AT(0), 1, EVENT_WORD(0, 8192, 1), 0}}},
-    {"events 0 and 65,535", 0,
+    {"events 0 and 65,535", 0, 0,
      {{COLLECTIONS_AT(0), 1, V, 0}, {DEVICES_AT(0), 1, DEVICE_WORD(0, ITT(0), 16), 0}, {ITT_AT(0), 1, EVENT_WORD(65535, 8192, 0), 0},
       {ITT_AT(65535), 1, EVENT_WORD(0, 8193, 0), 0}}},
-    {"event 0, next 65,535 onto a blank", -22,
+    {"event 0, next 65,535 onto a blank", -22, IN_ITT(NEXT, 0, 0),
      {{COLLECTIONS_AT(0), 1, V, 0}, {DEVICES_AT(0), 1, DEVICE_WORD(0, ITT(0), 16), 0}, {ITT_AT(0), 1, EVENT_WORD(65535, 8192, 0), 0}}},
-    {"event 0, next 16,383 onto a blank", -22,
+    {"event 0, next 16,383 onto a blank", -22, IN_ITT(NEXT, 0, 0),
      {{COLLECTIONS_AT(0), 1, V, 0}, {DEVICES_AT(0), 1, DEVICE_WORD(0, ITT(0), 16), 0}, {ITT_AT(0), 1, EVENT_WORD(16383, 8192, 0), 0},
       {ITT_AT(16384), 1, EVENT_WORD(0, 8193, 0), 0}}},
-    {"1,026 events", -12,
+    {"1,026 events", -12, IN_ITT(1025TH, 0, 1024),
      {{COLLECTIONS_AT(0), 1, V, 0}, {DEVICES_AT(0), 1, DEVICE_WORD(0, ITT(0), 11), 0}, {ITT_AT(0), 1026, EVENT_WORD(1, 8192, 0), 0}}},
-    {"1,025th event with a bad next", -22,
+    {"1,025th event with a bad next", -22, IN_ITT(NEXT, 0, 1024),
      {{COLLECTIONS_AT(0), 1, V, 0}, {DEVICES_AT(0), 1, DEVICE_WORD(0, ITT(0), 11), 0}, {ITT_AT(0), 1025, EVENT_WORD(1, 8192, 0), 0}}},
+    {"a collection's pe before its ICID", -22, IN_COLLECTIONS(PE, 1),
+     {{COLLECTIONS_AT(0), 1, V, 0}, {COLLECTIONS_AT(1), 1, V | 4 << 16, 0}}},
+    {"an ICID again as the 17th", -22, IN_COLLECTIONS(REPEAT, 16), {{COLLECTIONS_AT(0), 16, V, 1}, {COLLECTIONS_AT(16), 1, V | 3, 0}}},
+    {"a collection before a device", -22, IN_COLLECTIONS(PE, 0),
+     {{COLLECTIONS_AT(0), 1, V | 4 << 16, 0}, {DEVICES_AT(0), 1, DEVICE_WORD(0, ITT(0), 17), 0}}},
+    {"a device's next before its bits", -22, IN_DEVICES(NEXT, 7), {{DEVICES_AT(7), 1, DEVICE_WORD(1, ITT(0), 17), 0}}},
+    {"a device's bits before its ITT's place", -22, IN_DEVICES(SIZE, 7), {{DEVICES_AT(7), 1, DEVICE_WORD(0, UINT64_C(0), 17), 0}}},
+    {"the 33rd with an ITT outside memory", -12, IN_DEVICES(33RD, 32),
+     {{DEVICES_AT(0), 32, DEVICE_WORD(1, ITT(0), 5), 1 << 5}, {DEVICES_AT(32), 1, DEVICE_WORD(0, UINT64_C(0), 5), 0}}},
+    {"an ITT over a table and out of memory", -14, IN_DEVICES(OUTSIDE, 0),
+     {{DEVICES_AT(0), 1, DEVICE_WORD(0, UINT64_C(0x3fffff00), 6), 0}}},
+    {"a device's event before the following device", -22, IN_ITT(LPI, 1, 2),
+     {{DEVICES_AT(1), 1, DEVICE_WORD(1, ITT(0), 5), 0}, {DEVICES_AT(2), 1, DEVICE_WORD(0, ITT(1), 17), 0},
+      {ITT_AT(2), 1, EVENT_WORD(0, 1, 0), 0}}},
+    {"a device's overlap before its events", -22, IN_DEVICES(OVERLAP, 1),
+     {{DEVICES_AT(0), 1, DEVICE_WORD(1, ITT(1), 5), 0}, {DEVICES_AT(1), 1, DEVICE_WORD(0, ITT(0), 14), 0},
+      {ITT_AT(2), 1, EVENT_WORD(0, 1, 0), 0}}},
+    {"an event's LPI before its next", -22, IN_ITT(LPI, 0, 4),
+     {{COLLECTIONS_AT(0), 1, V, 0}, {DEVICES_AT(0), 1, DEVICE_WORD(0, ITT(0), 5), 0}, {ITT_AT(4), 1, EVENT_WORD(9, 8191, 0), 0}}},
+    {"an event's next before its ICID", -22, IN_ITT(NEXT, 0, 4),
+     {{COLLECTIONS_AT(0), 1, V, 0}, {DEVICES_AT(0), 1, DEVICE_WORD(0, ITT(0), 5), 0}, {ITT_AT(4), 1, EVENT_WORD(9, 8192, 1), 0}}},
+    {"the 1,025th event of no collection", -22, IN_ITT(ICID, 0, 1024),
+     {{COLLECTIONS_AT(0), 1, V, 0}, {DEVICES_AT(0), 1, DEVICE_WORD(0, ITT(0), 11), 0}, {ITT_AT(0), 1024, EVENT_WORD(1, 8192, 0), 0},
+      {ITT_AT(1024), 1, EVENT_WORD(0, 8192, 1), 0}}},
+    {"the last event of the last device", -22, IN_ITT(ICID, 65535, 65535),
+     {{DEVICES_AT(65535), 1, DEVICE_WORD(0, ITT(0), 16), 0}, {ITT_AT(65535), 1, EVENT_WORD(0, 8192, 0), 0}}},
 };
 
 static void put_words(uint8_t *memory, const struct words *w)
@@ -418,10 +465,11 @@ static void lend_tables(const struct tables *t)
 /* What a restore accepts is then saved over old bytes. */
 static void check_restores(void)
 {
-    static const struct call restore = {.kind = RESTORE}, save = {.kind = SAVE};
+    static const struct call restore = {.kind = RESTORE}, save = {.kind = SAVE}, explain = {.kind = EXPLAIN};
     lend(&guests[BLANK]);
     for (size_t i = 0; i < sizeof tables / sizeof tables[0]; i++) {
         lend_tables(&tables[i]);
+        both_answer(tables[i].code, &explain, tables[i].what);
         both_answer(tables[i].due, &restore, tables[i].what);
         fill_old(library.memory, library.memory_len);
         fill_old(plain.memory, plain.memory_len);
@@ -432,14 +480,17 @@ static void check_restores(void)
 /* Every byte of guest a's saved tables, changed by itself. */
 static void sweep_tables(uint8_t change)
 {
-    static const struct call save = {.kind = SAVE}, restore = {.kind = RESTORE};
+    static const struct call save = {.kind = SAVE}, restore = {.kind = RESTORE}, explain = {.kind = EXPLAIN};
     unsigned long described = 0;
     size_t used = 0x2000 + 3 * 0x100;
     lend(&guests[SOME]);
     both_answer(0, &save, "save");
     for (size_t i = 0; i < used; i++) {
         library.memory[i] = plain.memory[i] = library.memory[i] ^ change;
-        described += both(&restore, "tables with one byte changed") == 0;
+        int64_t code = both(&explain, "tables with one byte changed");
+        int64_t answer = both(&restore, "tables with one byte changed");
+        need(code >= 0 && (code == 0) == (answer == 0), "explain and restore differ on whether tables are described");
+        described += answer == 0;
         library.memory[i] = plain.memory[i] = library.memory[i] ^ change;
         lend_state(guests[SOME].state);
     }

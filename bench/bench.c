@@ -74,6 +74,19 @@ static void print_stack(void)
     printf("  used by %s and %s\n", plain.call, library.call);
 }
 
+/* What names a fault should need no more than what meets it. */
+static void print_stack_of_explain(void)
+{
+    size_t restore = library_depth_of("rk_its_restore"), explain = library_depth_of("rk_its_explain");
+    need(restore > 0 && explain > 0, "restore and explain left no mark on the stack");
+    printf("stack of restore %33s %10s\n", grouped(plain_depth_of("plain_restore")), grouped(restore));
+    printf("stack of explain %33s %10s %9s", grouped(plain_depth_of("plain_explain")), grouped(explain), "");
+    if (explain <= restore)
+        printf("  <= restore's  met\n");
+    else
+        printf("  <= restore's  missed by %s\n", grouped(explain - restore));
+}
+
 /* so that the table can be read by itself */
 static void print_legend(unsigned long compared)
 {
@@ -96,6 +109,7 @@ int main(void)
     print_times();
     print_some_to_full();
     print_stack();
+    print_stack_of_explain();
     print_legend(compared);
     return 0;
 }

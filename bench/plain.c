@@ -3,7 +3,7 @@
 #include <string.h>
 
 #include "plain_state.h"
-#include "ritikancha.h" /* the errnos alone */
+#include "ritikancha.h" /* the numbers of errnos, faults and tables alone */
 
 /* 0, or the refusal of a state that every call makes first */
 static int64_t state_fault(const uint8_t *state, size_t state_len)
@@ -95,7 +95,7 @@ int64_t plain_lookup(const uint8_t *state, size_t state_len, uint64_t device, ui
 #define DEVICE_CAP UINT64_C(0x3fff)
 #define VALID (UINT64_C(1) << 63)
 
-/* 0, or the refusal of save and restore before any table is touched */
+/* 0, or the refusal of save, restore and explain before any table is touched */
 static int64_t tables_fault(const uint8_t *state, size_t state_len, size_t memory_len)
 {
     int64_t fault = state_fault(state, state_len);
@@ -186,7 +186,7 @@ int64_t plain_save(const uint8_t *state, size_t state_len, uint8_t *memory, size
     return 0;
 }
 
-/* ---- restore */
+/* ---- restore and explain: one reading of the tables */
 
 /* A device table or an ITT: an entry is there if it has a bit of `valid`; its next is the field of `mask` at `shift`. */
 struct chain {
@@ -229,13 +229,19 @@ static enum step follow(const struct chain *c, size_t *i)
     return *i < c->entries && (entry_at(c, *i) & c->valid) != 0 ? ONWARD : BROKEN;
 }
 
-/* What a restore has read so far. The state stays until all is read, since a refusal must leave it; the rows are laid out as there, and
- * those past the counts are never read. */
+/* What has been read so far. The state stays until all is read, since a refusal must leave it; the rows are laid out as there, and those
+ * past the counts are never read. */
 struct reading {
     const uint8_t *state, *memory;
     struct areas tables;
     uint8_t map[MAPPING_BYTES];
 };
+
+/* A fault and its place as one number (§13.6). Tests answer a fault, readers its code, and both 0 where there is none. */
+static int64_t code_of(int64_t fault, int64_t table, uint64_t device, size_t entry)
+{
+    return fault << 40 | table << 32 | (int64_t)device << 16 | (int64_t)entry;
+}
 
 /* Puts a collection in its place by rising ICID. */
 static void insert_collection(uint8_t *map, uint64_t icid, uint64_t pe)
@@ -253,10 +259,12 @@ static int64_t read_collection(struct reading *r, uint64_t word)
     uint64_t pe = word >> 16 & UINT64_C(0xfffffffff);
     uint64_t icid = word & 0xffff;
     size_t n = (size_t)get64(r->map + AT_COLLECTION_COUNT);
-    if (pe >= get64(r->state + AT_VCPU_COUNT) || find_collection(r->map, icid) < n)
-        return -RK_EINVAL;
+    if (pe >= get64(r->state + AT_VCPU_COUNT))
+        return RK_FAULT_PE;
+    if (find_collection(r->map, icid) < n)
+        return RK_FAULT_REPEAT;
     if (n == MAX_COLLECTIONS)
-        return -RK_ENOMEM;
+        return RK_FAULT_17TH;
     insert_collection(r->map, icid, pe);
     return 0;
 }
@@ -270,20 +278,25 @@ static int64_t read_collections(struct reading *r)
     for (size_t i = 0; i < n && (get64(table + i * ENTRY_BYTES) & VALID) != 0; i++) {
         int64_t fault = read_collection(r, get64(table + i * ENTRY_BYTES));
         if (fault != 0)
-            return fault;
+            return code_of(fault, RK_TABLE_COLLECTIONS, 0, i);
     }
     return 0;
 }
 
-static int64_t read_event(struct reading *r, uint64_t device, uint64_t event, uint64_t word)
+/* An event's LPI is judged before its next. */
+static int64_t read_event(struct reading *r, uint64_t device, uint64_t event, uint64_t word, bool broken)
 {
     uint64_t lpi = word >> 16 & UINT64_C(0xffffffff);
     uint64_t icid = word & 0xffff;
     size_t n = (size_t)get64(r->map + AT_EVENT_COUNT);
-    if (lpi < 8192 || lpi > 65535 || find_collection(r->map, icid) == get64(r->map + AT_COLLECTION_COUNT))
-        return -RK_EINVAL;
+    if (lpi < 8192 || lpi > 65535)
+        return RK_FAULT_LPI;
+    if (broken)
+        return RK_FAULT_NEXT;
+    if (find_collection(r->map, icid) == get64(r->map + AT_COLLECTION_COUNT))
+        return RK_FAULT_ICID;
     if (n == MAX_EVENTS)
-        return -RK_ENOMEM;
+        return RK_FAULT_1025TH;
     uint8_t *row = r->map + AT_EVENTS + n * EVENT_BYTES;
     put16(row, device);
     put16(row + 2, event);
@@ -293,7 +306,6 @@ static int64_t read_event(struct reading *r, uint64_t device, uint64_t event, ui
     return 0;
 }
 
-/* An entry's next is judged before its other fields. */
 static int64_t read_events(struct reading *r, uint64_t device, const struct chain *c)
 {
     enum step step = ONWARD;
@@ -303,42 +315,56 @@ static int64_t read_events(struct reading *r, uint64_t device, const struct chai
     while (step == ONWARD) {
         size_t at = i;
         step = follow(c, &i);
-        if (step == BROKEN)
-            return -RK_EINVAL;
-        int64_t fault = read_event(r, device, at, entry_at(c, at));
+        int64_t fault = read_event(r, device, at, entry_at(c, at), step == BROKEN);
         if (fault != 0)
-            return fault;
+            return code_of(fault, RK_TABLE_ITT, device, at);
     }
     return 0;
 }
 
-static void append_device(uint8_t *map, uint64_t id, uint64_t itt, uint64_t bits)
+/* A device as its entry has it. */
+struct device {
+    uint64_t id, itt, bits;
+};
+
+static void append_device(uint8_t *map, const struct device *d)
 {
     size_t n = (size_t)get64(map + AT_DEVICE_COUNT);
     uint8_t *row = map + AT_DEVICES + n * DEVICE_BYTES;
-    put64(row, id);
-    put64(row + 8, itt);
-    put64(row + 16, bits);
+    put64(row, d->id);
+    put64(row + 8, d->itt);
+    put64(row + 16, d->bits);
     put64(map + AT_DEVICE_COUNT, n + 1);
 }
 
-static int64_t read_device(struct reading *r, uint64_t id, uint64_t word)
+/* A device's next is judged before all else. */
+static int64_t read_device(struct reading *r, const struct device *d, bool broken)
 {
-    uint64_t itt = (word >> 5 & UINT64_C(0xfffffffffff)) << 8;
-    uint64_t bits = (word & 0x1f) + 1;
-    uint64_t size = UINT64_C(8) << bits;
-    if (bits > MAX_BITS)
-        return -RK_EINVAL;
+    uint64_t size = UINT64_C(8) << d->bits;
+    if (broken)
+        return RK_FAULT_NEXT;
+    if (d->bits > MAX_BITS)
+        return RK_FAULT_SIZE;
     if (get64(r->map + AT_DEVICE_COUNT) == MAX_DEVICES)
-        return -RK_ENOMEM;
-    if (!in_memory(r->state, itt, size))
-        return -RK_EFAULT;
-    if (!add_area(&r->tables, itt, size))
-        return -RK_EINVAL;
-    append_device(r->map, id, itt, bits);
+        return RK_FAULT_33RD;
+    if (!in_memory(r->state, d->itt, size))
+        return RK_FAULT_OUTSIDE;
+    if (!add_area(&r->tables, d->itt, size))
+        return RK_FAULT_OVERLAP;
+    append_device(r->map, d);
+    return 0;
+}
+
+/* a device and then its events */
+static int64_t read_with_events(struct reading *r, uint64_t id, uint64_t word, bool broken)
+{
+    struct device d = {.id = id, .itt = (word >> 5 & UINT64_C(0xfffffffffff)) << 8, .bits = (word & 0x1f) + 1};
+    int64_t fault = read_device(r, &d, broken);
+    if (fault != 0)
+        return code_of(fault, RK_TABLE_DEVICES, 0, (size_t)id);
     struct chain events = {
-        .table = r->memory + memory_index(r->state, itt),
-        .entries = (size_t)1 << bits,
+        .table = r->memory + memory_index(r->state, d.itt),
+        .entries = (size_t)1 << d.bits,
         .valid = UINT64_C(0xffffffff) << 16,
         .mask = UINT64_C(0xffff),
         .shift = 48,
@@ -364,13 +390,23 @@ static int64_t read_devices(struct reading *r)
     while (step == ONWARD) {
         size_t at = i;
         step = follow(&devices, &i);
-        if (step == BROKEN)
-            return -RK_EINVAL;
-        int64_t fault = read_device(r, at, entry_at(&devices, at));
-        if (fault != 0)
-            return fault;
+        int64_t code = read_with_events(r, at, entry_at(&devices, at), step == BROKEN);
+        if (code != 0)
+            return code;
     }
     return 0;
+}
+
+static int64_t read_tables(struct reading *r, const uint8_t *state, const uint8_t *memory)
+{
+    r->state = state;
+    r->memory = memory;
+    r->tables.count = 0;
+    memset(r->map, 0, AT_DEVICES);
+    add_table(&r->tables, state + AT_DEVICE_TABLE);
+    add_table(&r->tables, state + AT_COLLECTION_TABLE);
+    int64_t code = read_collections(r);
+    return code != 0 ? code : read_devices(r);
 }
 
 /* The counts and the rows in use, over the state's; bytes past them stay. */
@@ -382,22 +418,38 @@ static void store_mapping(uint8_t *map, const uint8_t *read)
     memcpy(map + AT_EVENTS, read + AT_EVENTS, (size_t)get64(read + AT_EVENT_COUNT) * EVENT_BYTES);
 }
 
+/* what a restore answers to a fault; to none, 0 */
+static int64_t refusal_of(int64_t fault)
+{
+    switch (fault) {
+    case 0:
+        return 0;
+    case RK_FAULT_17TH:
+    case RK_FAULT_33RD:
+    case RK_FAULT_1025TH:
+        return -RK_ENOMEM;
+    case RK_FAULT_OUTSIDE:
+        return -RK_EFAULT;
+    default:
+        return -RK_EINVAL;
+    }
+}
+
 int64_t plain_restore(uint8_t *state, size_t state_len, const uint8_t *memory, size_t memory_len)
 {
     struct reading r;
-    int64_t fault = tables_fault(state, state_len, memory_len);
-    if (fault != 0)
-        return fault;
-    r.state = state;
-    r.memory = memory;
-    r.tables.count = 0;
-    memset(r.map, 0, AT_DEVICES);
-    add_table(&r.tables, state + AT_DEVICE_TABLE);
-    add_table(&r.tables, state + AT_COLLECTION_TABLE);
-    fault = read_collections(&r);
-    if (fault == 0)
-        fault = read_devices(&r);
-    if (fault == 0)
+    int64_t refusal = tables_fault(state, state_len, memory_len);
+    if (refusal != 0)
+        return refusal;
+    int64_t code = read_tables(&r, state, memory);
+    if (code == 0)
         store_mapping(state + AT_MAPPING, r.map);
-    return fault;
+    return refusal_of(RK_FAULT_OF(code));
+}
+
+int64_t plain_explain(const uint8_t *state, size_t state_len, const uint8_t *memory, size_t memory_len)
+{
+    struct reading r;
+    int64_t refusal = tables_fault(state, state_len, memory_len);
+    return refusal != 0 ? refusal : read_tables(&r, state, memory);
 }

@@ -37,6 +37,18 @@ static void plain_restores(struct scenario *s, uint64_t times)
         timed(plain_restore(s->state, STATE_BYTES, s->memory, s->memory_len) == 0);
 }
 
+static void library_explain(struct scenario *s, uint64_t times)
+{
+    for (uint64_t i = 0; i < times; i++)
+        timed(rk_its_explain(s->state, STATE_BYTES, s->memory, s->memory_len) == 0);
+}
+
+static void plain_explains(struct scenario *s, uint64_t times)
+{
+    for (uint64_t i = 0; i < times; i++)
+        timed(plain_explain(s->state, STATE_BYTES, s->memory, s->memory_len) == 0);
+}
+
 /* The events in turn, so that no one place among them is timed alone. */
 static const uint8_t *next_event(struct scenario *s)
 {
@@ -89,6 +101,9 @@ struct scenario scenarios[SCENARIOS] = {
     [RESTORE_SOME] = {.call = "restore", .guest = SOME, .target = 3, .run = {touch_bytes, plain_restores, library_restore}},
     [RESTORE_BLANK] = {.call = "restore", .guest = BLANK, .target = 2, .run = {touch_bytes, plain_restores, library_restore}},
     [RESTORE_WIDE] = {.call = "restore", .guest = WIDE, .target = 3, .run = {touch_bytes, plain_restores, library_restore}},
+    [EXPLAIN_SOME] = {.call = "explain", .guest = SOME, .run = {touch_bytes, plain_explains, library_explain}},
+    [EXPLAIN_BLANK] = {.call = "explain", .guest = BLANK, .run = {touch_bytes, plain_explains, library_explain}},
+    [EXPLAIN_WIDE] = {.call = "explain", .guest = WIDE, .run = {touch_bytes, plain_explains, library_explain}},
     [LOOKUP_SOME] = {.call = "lookup", .guest = SOME, .run = {touch_bytes, plain_lookups, library_lookup}},
     [LOOKUP_WIDE] = {.call = "lookup", .guest = WIDE, .run = {touch_bytes, plain_lookups, library_lookup}},
     [LINE_SMALL] = {.call = "irq_line", .guest = SMALL, .run = {touch_bytes, plain_line, library_line}},
@@ -177,15 +192,22 @@ static void runs_of_events(struct scenario *s)
     }
 }
 
-/* What a restore reads of the tables, and the rows that it writes. */
-static void runs_of_restore(struct scenario *s)
+/* What a restore and an explain read of the tables. */
+static void runs_of_tables(struct scenario *s)
 {
-    const uint8_t *map = s->state + AT_MAPPING, *collections = s->state + AT_COLLECTION_TABLE;
-    size_t devices = (size_t)get64(map + AT_DEVICE_COUNT), events = (size_t)get64(map + AT_EVENT_COUNT);
-    size_t n = (size_t)get64(map + AT_COLLECTION_COUNT);
+    const uint8_t *collections = s->state + AT_COLLECTION_TABLE;
+    size_t n = (size_t)get64(s->state + AT_MAPPING + AT_COLLECTION_COUNT);
     read_run(s, s->memory + table_at(s, collections), (n + 1) * ENTRY_BYTES);
     runs_of_devices(s);
     runs_of_events(s);
+}
+
+/* The rows that a restore writes. */
+static void runs_of_rows(struct scenario *s)
+{
+    const uint8_t *map = s->state + AT_MAPPING;
+    size_t devices = (size_t)get64(map + AT_DEVICE_COUNT), events = (size_t)get64(map + AT_EVENT_COUNT);
+    size_t n = (size_t)get64(map + AT_COLLECTION_COUNT);
     read_run(s, map, AT_DEVICES + devices * DEVICE_BYTES);
     read_run(s, collection_row(map, 0), n * COLLECTION_BYTES);
     read_run(s, event_row(map, 0), events * EVENT_BYTES);
@@ -206,14 +228,18 @@ static void lend_bytes(struct scenario *s)
 
 static void make_scenario(struct scenario *s)
 {
+    bool restores = s->run[LIBRARY] == library_restore;
+    bool reads = restores || s->run[LIBRARY] == library_explain;
     lend_bytes(s);
-    if (s->run[LIBRARY] == library_restore)
+    if (reads)
         library_save(s, 1);
     runs_of_state(s);
     if (s->run[LIBRARY] == library_save)
         runs_of_save(s);
-    if (s->run[LIBRARY] == library_restore)
-        runs_of_restore(s);
+    if (reads)
+        runs_of_tables(s);
+    if (restores)
+        runs_of_rows(s);
     if (s->run[LIBRARY] == library_line)
         read_run(s, s->state + AT_BANKS, BANK_BYTES);
 }
@@ -224,7 +250,7 @@ void make_scenarios(void)
         make_scenario(&scenarios[i]);
 }
 
-/* A restore of what was saved gives the mapping that stood, and save and lookup change no state: only lines do. */
+/* A restore of what was saved gives the mapping that stood, and save, explain and lookup change no state: only lines do. */
 void check_scenarios(void)
 {
     for (int i = 0; i < LINE_SMALL; i++)

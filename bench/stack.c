@@ -72,10 +72,21 @@ static int64_t move(void) { return rk_its_move(STATE, 8, 0, 3); }
 static int64_t lookup(void) { return rk_its_lookup(STATE, 8, 0); }
 static int64_t save(void) { return rk_its_save(STATE, memory, memory_len); }
 static int64_t restore(void) { return rk_its_restore(STATE, memory, memory_len); }
+static int64_t explain(void) { return rk_its_explain(STATE, memory, memory_len); }
 static int64_t plain_lines(void) { return plain_irq_line(STATE, 0, 40, 1); }
 static int64_t plain_looks(void) { return plain_lookup(STATE, 8, 0); }
 static int64_t plain_saves(void) { return plain_save(STATE, memory, memory_len); }
 static int64_t plain_restores(void) { return plain_restore(STATE, memory, memory_len); }
+static int64_t plain_explains(void) { return plain_explain(STATE, memory, memory_len); }
+
+/* The lowest bit of device 8's next is another, and leads from the guests' first device to a blank entry. */
+static int64_t explain_fault(void)
+{
+    memory[8 * ENTRY_BYTES + 6] ^= 2;
+    int64_t answer = explain();
+    memory[8 * ENTRY_BYTES + 6] ^= 2;
+    return answer;
+}
 
 struct way {
     const char *call;
@@ -113,6 +124,7 @@ static const struct way library_ways[] = {
     {"rk_its_lookup", lookup},
     {"rk_its_save", save},
     {"rk_its_restore", restore},
+    {"rk_its_explain", explain}, {"rk_its_explain", explain_fault},
 };
 
 static const struct way plain_ways[] = {
@@ -120,6 +132,7 @@ static const struct way plain_ways[] = {
     {"plain_lookup", plain_looks},
     {"plain_save", plain_saves},
     {"plain_restore", plain_restores},
+    {"plain_explain", plain_explains},
 };
 
 /* ---- the painted stack */
@@ -195,12 +208,15 @@ static void save_all(void)
         need(rk_its_save(guests[i].state, STATE_BYTES, guests[i].memory, guests[i].memory_len) == 0, "a guest could not be saved");
 }
 
-static struct depth deepest_of(const struct way *ways, size_t count)
+/* of one call, or of all where `call` is null */
+static struct depth deepest_of(const struct way *ways, size_t count, const char *call)
 {
     struct depth most = {"none", 0};
     map_stack();
     save_all();
     for (size_t i = 0; i < count; i++) {
+        if (call != NULL && strcmp(call, ways[i].call) != 0)
+            continue;
         size_t bytes = depth_of(ways[i].make);
         if (bytes > most.bytes)
             most = (struct depth){ways[i].call, bytes};
@@ -216,14 +232,25 @@ static size_t names_in(const struct way *ways, size_t count)
     return names;
 }
 
+enum { LIBRARY_WAYS = sizeof library_ways / sizeof library_ways[0], PLAIN_WAYS = sizeof plain_ways / sizeof plain_ways[0] };
+
 struct depth library_depth(void)
 {
-    size_t count = sizeof library_ways / sizeof library_ways[0];
-    need(names_in(library_ways, count) == 27, "not every call is made on a painted stack");
-    return deepest_of(library_ways, count);
+    need(names_in(library_ways, LIBRARY_WAYS) == 28, "not every call is made on a painted stack");
+    return deepest_of(library_ways, LIBRARY_WAYS, NULL);
 }
 
 struct depth plain_depth(void)
 {
-    return deepest_of(plain_ways, sizeof plain_ways / sizeof plain_ways[0]);
+    return deepest_of(plain_ways, PLAIN_WAYS, NULL);
+}
+
+size_t library_depth_of(const char *call)
+{
+    return deepest_of(library_ways, LIBRARY_WAYS, call).bytes;
+}
+
+size_t plain_depth_of(const char *call)
+{
+    return deepest_of(plain_ways, PLAIN_WAYS, call).bytes;
 }

@@ -13,4 +13,8 @@ struct depth {
 struct depth library_depth(void);
 struct depth plain_depth(void);
 
+/* the same of one call */
+size_t library_depth_of(const char *call);
+size_t plain_depth_of(const char *call);
+
 #endif

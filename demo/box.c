@@ -268,3 +268,8 @@ int64_t restore(struct box *box)
 {
     return rk_its_restore(box->state, box->state_len, box->memory, MEMORY_LEN);
 }
+
+int64_t explain(const struct box *box)
+{
+    return rk_its_explain(box->state, box->state_len, box->memory, MEMORY_LEN);
+}

@@ -62,5 +62,6 @@ int64_t frame_of(const struct box *box, unsigned vcpu);
 int64_t lookup(const struct box *box, const struct event *event);
 int64_t save(struct box *box);
 int64_t restore(struct box *box);
+int64_t explain(const struct box *box);
 
 #endif

@@ -2,6 +2,7 @@
 
 #include "facts.h"
 #include "ritikancha.h"
+#include "words.h"
 
 #include <inttypes.h>
 #include <stdio.h>
@@ -113,6 +114,9 @@ struct counts {
     unsigned another;
     unsigned by_lookups; /* other mappings that the lookups show */
     unsigned by_checksum;
+    unsigned explained;            /* flips of which explain says what restore does */
+    unsigned named[FAULT_NUMBERS]; /* refusals by the fault that explain names */
+    unsigned at_flip;              /* of those the ones that name the flipped entry itself */
 };
 
 struct trial {
@@ -120,6 +124,7 @@ struct trial {
     struct box *new;
     uint8_t *state;   /* the new box's before each flip */
     uint8_t *scratch; /* memory to save into */
+    int64_t place;    /* the flipped entry's, as a code has it */
     struct counts counts;
 };
 
@@ -139,12 +144,29 @@ static bool same_mapping(const struct trial *trial)
     return true;
 }
 
+/* Explain says before the restore what the restore then answers: 0, or a code whose fault has the restore's number. */
+static void judge_explained(struct trial *trial, int64_t code, int64_t answer)
+{
+    struct counts *counts = &trial->counts;
+    if (code == 0) {
+        counts->explained += answer == 0;
+    } else if (is_code(code)) {
+        counts->explained += answer == answer_of(RK_FAULT_OF(code));
+        counts->named[RK_FAULT_OF(code)]++;
+        counts->at_flip += code % (INT64_C(1) << 40) == trial->place;
+    }
+}
+
 static void judge_flip(struct trial *trial)
 {
     struct counts *counts = &trial->counts;
     counts->flips++;
     counts->by_checksum += saved_checksum(trial->new) != trial->new->checksum;
-    if (restore(trial->new) < 0) {
+    int64_t code = explain(trial->new);
+    fact(memcmp(trial->new->state, trial->state, trial->new->state_len) == 0, "explain leaves every byte of the state");
+    int64_t answer = restore(trial->new);
+    judge_explained(trial, code, answer);
+    if (answer < 0) {
         counts->refused++;
         counts->kept += memcmp(trial->new->state, trial->state, trial->new->state_len) == 0;
     } else if (same_mapping(trial)) {
@@ -169,15 +191,25 @@ static void flip_entry(struct trial *trial, uint8_t *entry)
     }
 }
 
+/* The first entry of a saved area, as a code has it: the table, and the device of an ITT. */
+static int64_t first_place(unsigned n)
+{
+    if (n < 2)
+        return (int64_t)(n == 0 ? RK_TABLE_DEVICES : RK_TABLE_COLLECTIONS) << 32;
+    return (int64_t)RK_TABLE_ITT << 32 | (int64_t)devices[n - 2].id << 16;
+}
+
 /* A save leaves zeros where nothing stands, so every other entry is valid. */
 static void flip_entries(struct trial *trial)
 {
     static const uint8_t nothing[8];
     for (unsigned n = 0; n < AREAS; n++) {
         struct area area = saved_area(n);
-        for (size_t at = area.at; at < area.at + area.len; at += 8) {
-            if (memcmp(trial->new->memory + at, nothing, 8) != 0)
-                flip_entry(trial, trial->new->memory + at);
+        for (size_t at = 0; at < area.len; at += 8) {
+            uint8_t *entry = trial->new->memory + area.at + at;
+            trial->place = first_place(n) + (int64_t)(at / 8);
+            if (memcmp(entry, nothing, 8) != 0)
+                flip_entry(trial, entry);
         }
     }
 }
@@ -203,6 +235,42 @@ static void check_counts(const struct counts *counts)
     fact(counts->refused == 1808, "1,808 flips are refused");
 }
 
+/* Counted by hand as above, and in the order of the tests: at a device's entry next, size, outside, overlap; at an event's LPI, next, ICID.
+ *   102 pe: the 34 high bits of each pe.
+ *   527 next: 42 nexts of devices; 2 at the device before the one whose V was cleared; 3 at an event that a shortened ITT cuts off from
+ *   the following one (6 bits made 2, 12 made 4, 5 made 1); 480 nexts of events: a 3 or a 0 with one bit flipped is not divisible by 3,
+ *   as all distances between events of one device are.
+ *   3 size: bit 4 of each device's bits.
+ *   96 outside: the 32 high bits of each ITT's address, since memory is 1 MiB.
+ *   17 overlap: 13 of the 36 low bits of addresses. Device 4's ITT (0x2100, 512 bytes) goes over device 300's, 3 times into device 41's and
+ *   over the device table; device 41's (0x3000, 32 KiB) over device 4's and over the collection table; device 300's (0x2000, 256 bytes)
+ *   twice into device 4's, 3 times into device 41's and over the device table. And 4 lengths: device 4's 6 bits made 14; device 300's 5
+ *   made 6, 7 and 13.
+ *   532 LPI: 23 the other low bits of addresses, by which the first entry that is not blank is the guest's data, all of it 0xA7, an LPI
+ *   above 65,535; 480 the 16 high bits of each LPI; 29 bit 13 of an LPI, which leaves 1 or more.
+ *   531 ICID: 480 of events; 48 of collections and 3 collections whose V was cleared, each of which some event names.
+ * Not at the flipped entry are 84 of these: the 2 and 3 of next; 5 overlaps, all those of device 4 but the one with the device table, met
+ * at the later device; 23 of LPI; 51 of ICID. */
+static void check_named(const struct counts *counts)
+{
+    static const unsigned named[FAULT_NUMBERS] = {
+        [RK_FAULT_PE] = 102,     [RK_FAULT_NEXT] = 527, [RK_FAULT_SIZE] = 3,   [RK_FAULT_OUTSIDE] = 96,
+        [RK_FAULT_OVERLAP] = 17, [RK_FAULT_LPI] = 532,  [RK_FAULT_ICID] = 531,
+    };
+    fact(counts->explained == counts->flips, "explain agrees with restore at every flip");
+    for (unsigned fault = 1; fault < FAULT_NUMBERS; fault++)
+        answers(counts->named[fault], named[fault], fault_name(fault));
+    fact(counts->at_flip == 1724, "1,724 flips are named at the flipped entry itself");
+}
+
+static void print_named(const struct counts *counts)
+{
+    printf("the first fault of the %u that are refused, as explain names it:", counts->refused);
+    for (unsigned fault = 1; fault < FAULT_NUMBERS; fault++)
+        printf("%s %s %u", fault == 1 ? "" : ",", fault_name(fault), counts->named[fault]);
+    printf("; %u of them at the flipped entry itself\n", counts->at_flip);
+}
+
 void flip_every_bit(const struct box *old, struct box *new)
 {
     struct trial trial = {.old = old, .new = new, .state = malloc(new->state_len), .scratch = malloc(MEMORY_LEN)};
@@ -212,10 +280,12 @@ void flip_every_bit(const struct box *old, struct box *new)
     memcpy(trial.state, new->state, new->state_len);
     flip_entries(&trial);
     check_counts(counts);
+    check_named(counts);
     printf("%u bits of %u saved entries flipped one by one: %u refused, %u changed nothing, %u gave another mapping "
            "(the %d lookups show %u of them); the checksum shows %u of %u\n",
            counts->flips, counts->entries, counts->refused, counts->unchanged, counts->another, EVENTS, counts->by_lookups,
            counts->by_checksum, counts->flips);
+    print_named(counts);
     fact(memcmp(new->memory, old->memory, MEMORY_LEN) == 0, "every flip was taken back");
     free(trial.state);
     free(trial.scratch);

@@ -14,7 +14,8 @@ uint32_t saved_checksum(const struct box *box);
 /* The checksum itself, on bytes whose CRC-32 is published. */
 void check_checksum(void);
 
-/* Both damage the memory of the new box, which holds the old one's mapping, and leave it mended. */
+/* Both damage the memory of the new box, which holds the old one's mapping, and leave it mended. The second also holds rk_its_explain
+ * against rk_its_restore, flip by flip. */
 void lose_first_device(const struct box *old, struct box *new);
 void flip_every_bit(const struct box *old, struct box *new);
 

@@ -2,8 +2,8 @@
  *
  * The old box is set up, maps three devices with thirty events, runs and is stopped. Its mapping is saved into its memory; memory,
  * registers and a checksum of the saved bytes are carried to a new box, which compares the checksum and restores the mapping. Then one link
- * in the carried memory is damaged, and the new box refuses it and keeps what it had. At last come damages that a restore does not find
- * and the checksum does.
+ * in the carried memory is damaged, and the new box refuses it, says why and keeps what it had. At last come damages that a restore does
+ * not find and the checksum does.
  *
  * What is expected stands here by hand: what the plan mapped, and the bytes of one table entry, by the published layout.
  */
@@ -11,6 +11,7 @@
 #include "damage.h"
 #include "facts.h"
 #include "ritikancha.h"
+#include "why.h"
 
 #include <inttypes.h>
 #include <stdio.h>
@@ -215,7 +216,10 @@ static void refuse_damage(struct box *new)
     fact(memcmp(before, new->state, new->state_len) == 0, "the refusal leaves every byte of the state");
     unsigned kept = looked_up(new, mapped, "an event is still mapped after the refusal");
     printf("one link damaged (next 3 made 2): restore answers %" PRId64 ", %u of %d interrupts still mapped\n", answer, kept, EVENTS);
+    explain_link(new, answer);
+    explain_refusals(new);
     first_link(new)[6] = 3;
+    answers(explain(new), 0, "with the link mended the bytes describe a mapping");
     answers(restore(new), 0, "the mended link is accepted: it was the damage that was refused");
     free(before);
 }

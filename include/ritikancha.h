@@ -22,7 +22,7 @@
  * aligned. No two areas that are lent to one call may overlap. A pointer to const is only read through. The library allocates nothing, blocks
  * nowhere, keeps no pointer and has no memory of its own: calls on different states do not meet, and two calls on one state must
  * not run at once unless both only read it. Nobody else may write a lent area while a call runs, nor read one that the call writes:
- * devices that write guest memory must be still during rk_its_save and rk_its_restore.
+ * devices that write guest memory must be still during rk_its_save, rk_its_restore and rk_its_explain.
  *
  * NULL. No pointer may be null, not even with length 0, where nothing is read or written through it: point to any byte. A null pointer, or
  * a length that the area does not have, is the caller's fault, and no call can find it.
@@ -32,7 +32,8 @@
  * may lie over guest memory: frames are compared with frames, tables with tables (§3.4).
  *
  * STACK. Measured on x86-64, not proved: a mapping command, rk_its_place and RESET take up to 74 KiB of stack, rk_its_lookup 46, other
- * calls that write the state 31, calls that read it 14, rk_its_restore 12, rk_setup 10, rk_its_save less than 1.
+ * calls that write the state 31, calls that read it 14, rk_its_restore 12 and rk_its_explain no more than that, rk_setup 10, rk_its_save
+ * less than 1.
  *
  * LIMITS (§1.6). 64 VCPUs and 32 redistributor regions; 16 collections, 32 devices, 1,024 events over all devices. Not here: §1.1.
  */
@@ -375,8 +376,8 @@ int64_t rk_its_save(const uint8_t *state, size_t state_len, uint8_t *memory, siz
  *   -RK_EFAULT  memory_len is not the length that rk_setup was told
  *   -RK_ENXIO   before ITS INIT, or the tables are not placed
  *   -RK_EBUSY   running
- * and then, for tables that describe no mapping, the first fault that is met. Collection entries rising, up to the first that is not
- * valid (§9.4):
+ * and then, for tables that describe no mapping, the first fault that is met; rk_its_explain names it and its place. Collection entries
+ * rising, up to the first that is not valid (§9.4):
  *   -RK_EINVAL  pe not below the number of VCPUs, or an ICID a second time
  *   -RK_ENOMEM  a 17th collection
  * Then device entries rising, from the first valid one on by each one's next, and right after each device its events (§9.5, §9.6):
@@ -392,6 +393,55 @@ int64_t rk_its_save(const uint8_t *state, size_t state_len, uint8_t *memory, siz
  *   -RK_ENOMEM  a 1,025th event
  */
 int64_t rk_its_restore(uint8_t *state, size_t state_len, const uint8_t *memory, size_t memory_len);
+
+/* ---- Why a restore is refused ----
+ *
+ * The answer of rk_its_restore is one number, and several faults share one. rk_its_explain tells them apart: a refusal of the call itself is
+ * negative, a fault of the tables is a code above 0.
+ */
+
+/* The faults, by their numbers in a code (§13.4). Beside each stands what rk_its_restore answers where this fault is the first. */
+#define RK_FAULT_PE 1      /* -RK_EINVAL  a collection's pe is not below the number of VCPUs */
+#define RK_FAULT_REPEAT 2  /* -RK_EINVAL  a collection's ICID stands in an entry before it too */
+#define RK_FAULT_17TH 3    /* -RK_ENOMEM  a 17th collection */
+#define RK_FAULT_NEXT 4    /* -RK_EINVAL  a next leads past its table or to nothing valid; of a device or of an event, as the table says */
+#define RK_FAULT_SIZE 5    /* -RK_EINVAL  a device's bits are above 16 */
+#define RK_FAULT_33RD 6    /* -RK_ENOMEM  a 33rd device */
+#define RK_FAULT_OUTSIDE 7 /* -RK_EFAULT  a device's ITT is not wholly inside memory */
+#define RK_FAULT_OVERLAP 8 /* -RK_EINVAL  a device's ITT overlaps one of the two tables or the ITT of a device before it */
+#define RK_FAULT_LPI 9     /* -RK_EINVAL  an event's LPI is below 8,192 or above 65,535 */
+#define RK_FAULT_ICID 10   /* -RK_EINVAL  no collection has an event's ICID */
+#define RK_FAULT_1025TH 11 /* -RK_ENOMEM  a 1,025th event */
+
+/* The tables (§13.5). */
+#define RK_TABLE_COLLECTIONS 1 /* the collection table: entries count from 0 */
+#define RK_TABLE_DEVICES 2     /* the device table: an entry's index is its device's ID */
+#define RK_TABLE_ITT 3         /* the ITT of a device: an entry's index is its event's ID */
+
+/* A code taken apart (§13.6). From the lowest bit up: entry [15:0], device [31:16], table [39:32], fault [47:40]. Each is an int64_t, as a
+ * code is. The device is the one whose ITT it is, and 0 in the other two tables. Of an answer that is 0 or negative they say nothing. */
+#define RK_FAULT_OF(code) (((code) >> 40) & 0xFF)
+#define RK_TABLE_OF(code) (((code) >> 32) & 0xFF)
+#define RK_DEVICE_OF(code) (((code) >> 16) & 0xFFFF)
+#define RK_ENTRY_OF(code) ((code) & 0xFFFF)
+
+/* Answers 0 if the tables in the lent guest memory describe a mapping, so that rk_its_restore would take it, and otherwise the code of the
+ * first fault that rk_its_restore would meet (§13.1, §13.3, §13.10). State and memory are only read. What is mapped in the state
+ * makes no difference as long as the state is sound.
+ *
+ * A negative answer is rk_its_restore's own and is given before any byte of memory is read (§13.2): it says nothing about the tables.
+ *   -RK_EFAULT  memory_len is not the length that rk_setup was told. A wrong state_len is -RK_EFAULT too, as for every call: compare it
+ *               with rk_state_len() to know which of the two lengths it was. An ITT outside memory is never this, but RK_FAULT_OUTSIDE
+ *   -RK_ENXIO   before ITS INIT, or the tables are not placed: the guest is not ready, and there is no table to judge yet
+ *   -RK_EBUSY   running: stop the guest and ask again
+ * -RK_EINVAL is a state that was never set up or was damaged, as for every call, and here nothing else: what rk_its_restore refuses with
+ * it because of the tables is a code.
+ *
+ * The place is the entry that has the fault (§13.5): the later of two collections with one ICID, the later of two devices whose ITTs
+ * overlap, the entry that holds a next and not the one where it lands. Which entries are read and when a fault is there: §13.7, §13.8. The
+ * first is that of the entry that is read first, and at one entry the order is that of rk_its_restore's list (§13.9).
+ */
+int64_t rk_its_explain(const uint8_t *state, size_t state_len, const uint8_t *memory, size_t memory_len);
 
 #ifdef __cplusplus
 }

@@ -182,7 +182,7 @@ static const struct {
     {"rk_its_place", 4},              {"rk_its_map_device", 3},         {"rk_its_unmap_device", 1},
     {"rk_its_map_collection", 2},     {"rk_its_unmap_collection", 1},   {"rk_its_map_event", 4},
     {"rk_its_discard", 2},            {"rk_its_move", 3},               {"rk_its_lookup", 2},
-    {"rk_its_save", 0},               {"rk_its_restore", 0},
+    {"rk_its_save", 0},               {"rk_its_restore", 0},            {"rk_its_explain", 0},
 };
 
 enum { KINDS = sizeof calls / sizeof calls[0], FIRST_ITS = 15 };
@@ -225,7 +225,8 @@ static int64_t its_call(unsigned kind, const uint64_t *n, struct area *lent)
     case 22: return rk_its_move(s, len, n[0], n[1], n[2]);
     case 23: return rk_its_lookup(s, len, n[0], n[1]);
     case 24: return rk_its_save(s, len, content(lent), lent->len);
-    default: return rk_its_restore(s, len, content(lent), lent->len);
+    case 25: return rk_its_restore(s, len, content(lent), lent->len);
+    default: return rk_its_explain(s, len, content(lent), lent->len);
     }
 }
 

@@ -110,6 +110,8 @@ pub enum Call {
     Save,
     #[cfg(feature = "restore")]
     Restore,
+    #[cfg(feature = "restore")]
+    Explain,
 }
 
 impl Call {
@@ -119,6 +121,8 @@ impl Call {
             Call::Get { .. } | Call::RedistBase { .. } | Call::Pending { .. } => true,
             #[cfg(feature = "its")]
             Call::Lookup { .. } | Call::Save => true,
+            #[cfg(feature = "restore")]
+            Call::Explain => true,
             _ => false,
         }
     }
@@ -133,12 +137,14 @@ impl Call {
         }
     }
 
-    /// §2.3: calls that answer the number that they are asked for; the others answer 0.
+    /// §2.3, §13.3: calls that answer the number that they are asked for; the others answer 0.
     pub fn asks_number(&self) -> bool {
         match self {
             Call::RedistBase { .. } | Call::Pending { .. } => true,
             #[cfg(feature = "its")]
             Call::Lookup { .. } => true,
+            #[cfg(feature = "restore")]
+            Call::Explain => true,
             _ => false,
         }
     }
@@ -154,3 +160,32 @@ pub const ITS_STEPS: bool = cfg!(feature = "its");
 
 /// §2.2.
 pub const REFUSALS: [i64; 9] = [-2, -6, -7, -12, -14, -16, -17, -19, -22];
+
+/// §13.4: by a fault's number in a code, less one, what a restore answers that meets it first, and the tables that it
+/// can be in (§13.8).
+#[cfg(feature = "restore")]
+const NAMED: [(i64, &[i64]); 11] = [
+    (-22, &[1]),
+    (-22, &[1]),
+    (-12, &[1]),
+    (-22, &[2, 3]),
+    (-22, &[2]),
+    (-12, &[2]),
+    (-14, &[2]),
+    (-22, &[2]),
+    (-22, &[3]),
+    (-22, &[3]),
+    (-12, &[3]),
+];
+
+/// What a restore must answer where explain has answered this: the same refusal (§13.2), 0 (§13.3), or the number of the
+/// fault that the code names (§13.4). None if it is no code of §13.6.
+#[cfg(feature = "restore")]
+pub fn restore_answer(explained: i64) -> Option<i64> {
+    if explained <= 0 {
+        return Some(explained);
+    }
+    let (table, device) = (explained >> 32 & 0xff, explained >> 16 & 0xffff);
+    let row = NAMED.get((explained >> 40) as usize - 1)?;
+    (row.1.contains(&table) && (table == 3 || device == 0)).then_some(row.0)
+}

@@ -19,7 +19,7 @@ fn lists() -> Vec<&'static str> {
         lists.extend(["sound", "its", "save"]);
     }
     if cfg!(feature = "restore") {
-        lists.push("restore");
+        lists.extend(["restore", "explain"]);
     }
     lists
 }

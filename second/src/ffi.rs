@@ -49,6 +49,7 @@ mod names {
     #[cfg(feature = "restore")]
     extern "C" {
         pub fn rk_its_restore(state: BytesMut, len: usize, memory: Bytes, length: usize) -> i64;
+        pub fn rk_its_explain(state: Bytes, len: usize, memory: Bytes, length: usize) -> i64;
     }
 }
 
@@ -125,6 +126,8 @@ fn its_call(call: &Call, state: &mut [u8], lent: &mut [u8]) -> i64 {
             Call::Save => names::rk_its_save(s, n, lent.as_mut_ptr(), lent.len()),
             #[cfg(feature = "restore")]
             Call::Restore => names::rk_its_restore(s, n, lent.as_ptr(), lent.len()),
+            #[cfg(feature = "restore")]
+            Call::Explain => names::rk_its_explain(s, n, lent.as_ptr(), lent.len()),
             _ => unreachable!("made above"),
         }
     }

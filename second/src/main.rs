@@ -3,6 +3,8 @@
 
 mod call;
 mod directed;
+#[cfg(feature = "restore")]
+mod explain;
 mod faults;
 mod ffi;
 #[cfg(feature = "restore")]
@@ -21,7 +23,7 @@ use report::{Kind, Report};
 use std::process::exit;
 
 const USAGE: &str = "usage: second [check [CALLS [SEED]]] | directed | hunt | replay SEED | faults FOLDER [LIST..]
-       second trace FILE [CALLS [SEED]] | show FILE | images FOLDER";
+       second trace FILE [CALLS [SEED]] | show FILE | explain FILE | images FOLDER";
 
 fn number(text: Option<&String>, absent: u64) -> u64 {
     match text {
@@ -95,7 +97,9 @@ fn main() {
         }
         "replay" if words.len() == 2 => random::replay(number(words.get(1), 0), &mut report),
         #[cfg(feature = "restore")]
-        "show" if words.len() == 2 => exit(show::run(&words[1])),
+        "show" if words.len() == 2 => exit(show::run(&words[1], show::text)),
+        #[cfg(feature = "restore")]
+        "explain" if words.len() == 2 => exit(show::run(&words[1], explain::text)),
         #[cfg(feature = "restore")]
         "images" if words.len() == 2 => exit(images::run(&words[1])),
         "faults" if words.len() >= 2 => exit(faults::run(&words[1], &words[2..])),

@@ -1,8 +1,12 @@
 //! The two sides of the comparison behind one face: the library with its real bytes, and the model.
 //! Both watch what holds around any call: a refusal changes nothing (§2.4), a reader leaves the state.
 
+#[cfg(feature = "restore")]
+use crate::call::restore_answer;
 use crate::call::{Call, REFUSALS};
 use crate::ffi;
+#[cfg(feature = "restore")]
+use crate::model::readings;
 use crate::model::Model;
 use crate::random;
 
@@ -58,14 +62,18 @@ impl Library {
     }
 }
 
-/// What must hold around a call whatever the state was: an answer of §2.2 or §2.3, and nothing changed where nothing
-/// may be (§2.4, §2.8).
+/// What must hold around a call whatever the state was: an answer of §2.2, §2.3 or §13.6, and nothing changed where
+/// nothing may be (§2.4, §2.8, §13.1).
 fn around(call: &Call, answer: i64, same_state: bool, same_lent: bool, complaints: &mut Vec<String>) {
     if answer < 0 && !REFUSALS.contains(&answer) {
         complaints.push(format!("answer {answer} is no listed number"));
     }
     if answer > 0 && !call.asks_number() {
         complaints.push(format!("answer {answer} where success is 0"));
+    }
+    #[cfg(feature = "restore")]
+    if *call == Call::Explain && restore_answer(answer).is_none() {
+        complaints.push(format!("answer {answer:#x} is no code of a fault"));
     }
     if answer < 0 && !same_state {
         complaints.push("the refusal changed the state".into());
@@ -122,6 +130,10 @@ impl Side for Model {
     fn call(&mut self, call: &Call, lent: &mut [u8], complaints: &mut Vec<String>) -> i64 {
         let state_before = self.clone();
         let lent_before = lent.to_vec();
+        #[cfg(feature = "restore")]
+        if *call == Call::Restore {
+            complaints.extend(readings::agree(self.guest(), lent).err());
+        }
         let answer = Model::call(self, call, lent);
         around(call, answer, *self == state_before, *lent == *lent_before, complaints);
         answer

@@ -259,6 +259,8 @@ fn coded_its(call: &Call) -> (u8, Vec<u64>) {
         Call::Save => (24, vec![]),
         #[cfg(feature = "restore")]
         Call::Restore => (25, vec![]),
+        #[cfg(feature = "restore")]
+        Call::Explain => (26, vec![]),
         _ => unreachable!("coded above"),
     }
 }

@@ -4,4 +4,5 @@ pub mod Laws
 pub mod Saving
 pub mod Copied
 pub mod Restoring
+pub mod Explaining
 pub mod Anchors

@@ -1,5 +1,5 @@
--- Calls on lent bytes: the state, the value of an attribute, and the memory of a save or a restore.
-use Prim.Native.Nat.{ℕ}
+-- Calls on lent bytes: the state, the value of an attribute, and the memory of a save, a restore or an explain.
+use Prim.Native.Nat.{ℕ, _^_, _<_}
 use mathlib.Core.Path.{_≡_}
 use mathlib.Core.Bool.{_||_, _&&_}
 use mathlib.Core.List.{List}
@@ -19,7 +19,8 @@ use Rattle.calls.specs.Steps.{changeStep, askStep}
 use Rattle.mapping.specs.Mapped.{empty}
 use Rattle.maplayout.specs.MapLayout.{decodeMap, storedMap}
 use Rattle.tables.specs.Saved.{savedMemory}
-use Rattle.tables.specs.Restored.{Out, fault, found, restored}
+use Rattle.tables.specs.Fault.{kindErrno}
+use Rattle.tables.specs.Restored.{Out, fault, found, restored, verdict}
 use Rattle.calls.specs.declared.Command.{Command}
 use Rattle.calls.specs.declared.Command.the-variants.{Reset}
 use Rattle.calls.specs.Commands.{BoxResult, commandStep, lookupStep, memoryFault}
@@ -111,9 +112,10 @@ saves s mem =
     (refused mem (memoryFault (length mem) (decode s))))
     s
 
--- §9.2: the mapping that is found takes the place of the one before and no other part of the state is stored; a fault is refused
+-- §9.2: the mapping that is found takes the place of the one before and no other part of the state is stored; a fault is refused with its
+-- errno (§13.4)
 abbrev pub restoredTo : List ℕ → Out → Reply
-restoredTo s (fault e) = refused s e
+restoredTo s (fault f) = refused s (kindErrno (f .kind))
 restoredTo s (found k) = record { answer = done 0; lent = storedMap k s }
 
 -- §1.3, §9.1: a restore: the test of the state, then its own three, then what the lent memory describes
@@ -124,6 +126,20 @@ restores s mem =
     (restoredTo s (restored (decode s) mem))
     (refused s (memoryFault (length mem) (decode s))))
     s
+
+-- §1.3, §13.2: the tests of a restore in their order; §13.3: then what it would meet. Nothing is written.
+unfoldable pub explains : List ℕ → List ℕ → Reading
+explains s mem =
+    guarded untold
+    (choose (eqb (memoryFault (length mem) (decode s)) 0)
+    (record { errno = 0; number = verdict (restored (decode s) mem) })
+    (untold (memoryFault (length mem) (decode s))))
+    s
+
+-- Inner: the promise of the code of that; its number is one that an answer can be
+pub record Explains (r : Reading) (s mem : List ℕ) : Type 0 where
+  pub is : r ≡ explains s mem
+  pub small : r .number < 2 ^ 63
 
 -- Inner: the promise of an inner function that may write what is lent
 pub record Gives (r : Reply) (answer : ℤ) (lent : List ℕ) : Type 0 where

@@ -94,6 +94,6 @@ commandStep (Reset width) m k = reset width m k
 unfoldable pub lookupStep : ℕ → ℕ → Machine → Mapped → Reading
 lookupStep device event m k = choose (ready m) (lookup device event k) (record { errno = 6; number = 0 })
 
--- §7.1, §9.1: before a save and a restore: the length of memory -14, not ready -6, running -16
+-- §7.1, §9.1, §13.2: before a save, a restore and an explain: the length of memory -14, not ready -6, running -16
 unfoldable pub memoryFault : ℕ → Machine → ℕ
 memoryFault len m = choose (eqb len (m .memory .length)) (choose (ready m) (choose (isRunning m) 16 0) 6) 14

@@ -199,7 +199,7 @@ pub fn look_up(g: Guest, k: Mapping, device: u64, event: u64) -> Reading
     its::lookup(k, device, event)
 }
 
-// §7.1, §9.1: the fault of a save or a restore that lends so many bytes of memory; 0 for none.
+// §7.1, §9.1, §13.2: the fault of a save, a restore or an explain that lends so many bytes of memory; 0 for none.
 pub fn memory_fault(s: &[u8], len: u64) -> u64
     requires { ⌜ length (now s) ≡ size ⌝ }
     ensures { λ r. ⌜ r ≡ memoryFault len (decode (now (s .entry))) ⌝ }

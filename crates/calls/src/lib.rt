@@ -19,7 +19,7 @@ ghost use Rattle.mapping.specs.Mapped.{rows, Within};
 ghost use Rattle.mapping.specs.MapRules.{MapKept};
 ghost use Rattle.calls.specs.Commands.{BoxDoes, commandStep};
 ghost use Rattle.calls.specs.Call.{changes, asks, setUp, valueOf, given, answered, Gives};
-ghost use Rattle.calls.specs.Call.{commands, looks, saves, restores};
+ghost use Rattle.calls.specs.Call.{commands, looks, saves, restores, Explains};
 
 // Calls that may change the state (`changeStep` says which paragraph each is). Attributes come with the width of the lent value and its
 // number (§2.8).
@@ -323,4 +323,24 @@ pub fn restore(state: &mut [u8], mem: &[u8]) -> i64
     }
     copy(state, &next);
     0
+}
+
+// Says what a restore would meet: the code of the first fault, or 0. It is a restore into a copy of the state, which is dropped.
+pub fn explain(state: &[u8], mem: &[u8]) -> Reading
+    ensures { λ r. ⌜ Explains r (now (state .entry)) (now (mem .entry)) ⌝ }
+{
+    if state.len() != 11400 {
+        return guest::told(14, 0);
+    }
+    if !is_sound(state) {
+        return guest::told(22, 0);
+    }
+    let len = mem.len() as u64;
+    let fault = commands::memory_fault(state, len);
+    if fault != 0 {
+        return guest::told(fault, 0);
+    }
+    let mut next = [0; 11400];
+    copy(&mut next, state);
+    guest::told(0, restore::read_tables(&mut next, mem))
 }

@@ -15,10 +15,10 @@ use Rattle.layout.specs.Layout.{size, decode}
 use Rattle.mapping.specs.Mapped.{Mapped, MapResult}
 use Rattle.mapping.specs.Commands.{placeFault}
 use Rattle.maplayout.specs.MapLayout.{decodeMap}
+use Rattle.tables.specs.Fault.{kindErrno}
 use Rattle.tables.specs.Restored.{Out, fault, found, restored}
 use Rattle.mapkept.proofs.Answers.{placeFault-listed, lookup-listed, mapDevice-listed, unmapDevice-listed, mapCollection-listed, unmapCollection-listed, mapEvent-listed, discard-listed, move-listed}
-use Rattle.described.proofs.Faults.{Known}
-use Rattle.described.proofs.Exact.{fault-known}
+use Rattle.described.proofs.Faults.{Known, number-known}
 use Rattle.kept.specs.Good.{listed}
 use Rattle.kept.proofs.Choice.{chosen, choose-by}
 use Rattle.calls.specs.declared.Change.{Change}
@@ -30,9 +30,9 @@ use Rattle.calls.specs.declared.Command.the-variants.{Place, MapDevice, UnmapDe
 use Rattle.calls.specs.Steps.{changeStep}
 use Rattle.calls.specs.Commands.{BoxResult, itsInitialised, ready, onMapping, placedAt, place, reset, commandStep, lookupStep, memoryFault}
 use Rattle.state.specs.Sound.{sound}
-use Rattle.calls.specs.Call.{Reply, changes, asks, setUp, valueOf, given, answered, refused, commands, looks, saves, restoredTo, restores}
+use Rattle.calls.specs.Call.{Reply, changes, asks, setUp, valueOf, given, answered, refused, commands, looks, saves, restoredTo, restores, explains}
 use Rattle.calls.proofs.Answers.{change-known, ask-known}
-use Rattle.step.specs.Step.{Call, step, writes, gives, tells, stateLen, vcpusStart, vcpusStop, setup, vcpuAdd, redistBase, vgicSet, itsSet, vgicGet, itsGet, irqPending, irqSetPending, irqClearPending, irqActivate, irqLine, irqTrigger, itsPlace, itsMapEvent, itsMapDevice, itsMove, itsMapCollection, itsDiscard, itsLookup, itsUnmapDevice, itsUnmapCollection, itsSave, itsRestore}
+use Rattle.step.specs.Step.{Call, step, writes, gives, tells, stateLen, vcpusStart, vcpusStop, setup, vcpuAdd, redistBase, vgicSet, itsSet, vgicGet, itsGet, irqPending, irqSetPending, irqClearPending, irqActivate, irqLine, irqTrigger, itsPlace, itsMapEvent, itsMapDevice, itsMove, itsMapCollection, itsDiscard, itsLookup, itsUnmapDevice, itsUnmapCollection, itsSave, itsRestore, itsExplain}
 use Rattle.claims.specs.Claims.{Answers, succeeds, refuses}
 
 or-end : (b : Bool) → (b || false) ≡ b
@@ -157,12 +157,21 @@ module _ (s v : List ℕ) where
       (chosen (λ (r : Reading). listed (r .errno) ≡ true) (sound s) (lookup-known (decode s) (decodeMap s) device event) refl)
       refl
 
-  lookup-answers : (device event : ℕ) → Answers s v (tells (answered (looks device event s)) s v)
-  lookup-answers device event =
-      let r = looks device event s in
+  -- a question with a listed errno, if any
+  told-answers : (r : Reading) → listed (r .errno) ≡ true → Answers s v (tells (answered r) s v)
+  told-answers r h =
       choose-by (λ z. Answers s v (tells z s v)) (eqb (r .errno) 0)
       (λ _. succeeds (r .number) refl)
-      (λ f. refuses (r .errno) (in-table _ (looked-known device event) (eqb-false _ 0 f)) refl refl refl)
+      (λ f. refuses (r .errno) (in-table _ h (eqb-false _ 0 f)) refl refl refl)
+
+  explained-known : listed (explains s v .errno) ≡ true
+  unfolding explains listed
+  explained-known =
+      chosen (λ (r : Reading). listed (r .errno) ≡ true) (eqb (length s) size)
+      (chosen (λ (r : Reading). listed (r .errno) ≡ true) (sound s)
+      (chosen (λ (r : Reading). listed (r .errno) ≡ true) (eqb (memoryFault (length v) (decode s)) 0) refl (memory-known (length v) (decode s)))
+      refl)
+      refl
 
   save-answers : Answers s v (gives s (saves s v))
   unfolding saves errnos.listed
@@ -180,7 +189,7 @@ module _ (s v : List ℕ) where
       Given r = Answers s v (gives s r)
 
   restored-answers : (o : Out) → restored (decode s) v ≡ o → Answers s v (writes (restoredTo s o) v)
-  restored-answers (fault e) q = refuses e (known-listed e (fault-known (decode s) v e q)) refl refl refl
+  restored-answers (fault f) q = refuses (kindErrno (f .kind)) (known-listed (kindErrno (f .kind)) (number-known (f .kind))) refl refl refl
   restored-answers (found k) q = succeeds 0 refl
 
   restore-answers : Answers s v (writes (restores s v) v)
@@ -223,6 +232,7 @@ demand1 (itsUnmapCollection icid) s v = command-answers s v (UnmapCollection ici
 demand1 (itsMapEvent device event lpi icid) s v = command-answers s v (MapEvent device event lpi icid)
 demand1 (itsDiscard device event) s v = command-answers s v (Discard device event)
 demand1 (itsMove device event icid) s v = command-answers s v (Move device event icid)
-demand1 (itsLookup device event) s v = lookup-answers s v device event
+demand1 (itsLookup device event) s v = told-answers s v (looks device event s) (looked-known s v device event)
 demand1 itsSave s v = save-answers s v
 demand1 itsRestore s v = restore-answers s v
+demand1 itsExplain s v = told-answers s v (explains s v) (explained-known s v)

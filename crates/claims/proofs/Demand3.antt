@@ -18,8 +18,10 @@ use Rattle.layout.specs.Layout.{size, decode}
 use Rattle.maplayout.specs.MapLayout.{decodeMap, storedMap}
 use Rattle.described.specs.Described.{Described}
 use Rattle.tables.specs.Saved.{savedMemory}
+use Rattle.tables.specs.Fault.{kindErrno}
 use Rattle.tables.specs.Restored.{Out, fault, found, restored}
-use Rattle.described.proofs.Exact.{described-unique, refused-undescribed, fault-known, exact, restored-ok}
+use Rattle.described.proofs.Faults.{number-known}
+use Rattle.described.proofs.Exact.{described-unique, refused-undescribed, exact, restored-ok}
 use Rattle.lists.proofs.Member.{all-weaker}
 use Rattle.savedlaws.proofs.Local.{Alike, SameIn}
 use Rattle.savedlaws.proofs.Again.{saved-again}
@@ -58,7 +60,7 @@ module _ (s mem : List ℕ) (h : Ready s mem) where
   is-ready : ready (decode s) ≡ true
   is-ready = and-both (h .opened .initialised) (h .opened .placed)
 
-  no-fault : memoryFault (length mem) (decode s) ≡ 0
+  pub no-fault : memoryFault (length mem) (decode s) ≡ 0
   unfolding memoryFault
   no-fault = rw (eq-eqb (length mem) (decode s .memory .length) (h .opened .size), is-ready, h .opened .stopped)
 
@@ -107,16 +109,17 @@ module _ (s mem : List ℕ) (h : Ready s mem) where
   }
     where
       undescribed : Refused (step itsRestore s mem) → (o : Out) → restored (decode s) mem ≡ o → (k : Mapped) → Described (decode s) mem k → ⊥
-      undescribed r (fault e) q = refused-undescribed (decode s) mem e q
+      undescribed r (fault f) q = refused-undescribed (decode s) mem f q
       undescribed r (found k) q = absurd (unrefused (r .0) (r .1) (sym (taken k q) ∙ r .2))
 
       refuses : ((k : Mapped) → Described (decode s) mem k → ⊥) → (o : Out) → restored (decode s) mem ≡ o → Refused (step itsRestore s mem)
-      refuses f (fault e) q = (e, known-listed e (fault-known (decode s) mem e q), ap (λ (r : Reply). r .answer) (comes-to (fault e) q))
+      refuses f (fault x) q =
+          (kindErrno (x .kind), known-listed (kindErrno (x .kind)) (number-known (x .kind)), ap (λ (r : Reply). r .answer) (comes-to (fault x) q))
       refuses f (found k) q = absurd (f k (describes k .0 q))
 
       described : Accepted (step itsRestore s mem) → (o : Out) → restored (decode s) mem ≡ o → Described (decode s) mem (decodeMap (step itsRestore s mem .state))
-      described a (fault e) q =
-          absurd (unrefused e (known-listed e (fault-known (decode s) mem e q)) (sym a ∙ ap (λ (r : Reply). r .answer) (comes-to (fault e) q)))
+      described a (fault f) q =
+          absurd (unrefused (kindErrno (f .kind)) (known-listed (kindErrno (f .kind)) (number-known (f .kind))) (sym a ∙ ap (λ (r : Reply). r .answer) (comes-to (fault f) q)))
       described a (found k) q = rw (taken-mapping k q) (describes k .0 q)
 
 -- soundness along the list

@@ -47,7 +47,7 @@ use Rattle.calls.specs.Steps.{changeStep}
 use Rattle.calls.specs.Commands.{BoxResult, itsInitialised, ready, onMapping, placedAt, place, reset, commandStep, memoryFault}
 use Rattle.state.specs.Sound.{sound, Sound}
 use Rattle.calls.specs.Call.{Reply, changes, commands, setUp, valueOf, restores, restoredTo}
-use Rattle.step.specs.Step.{Call, step, stateLen, vcpusStart, vcpusStop, setup, vcpuAdd, redistBase, vgicSet as setVgic, itsSet as setIts, vgicGet, itsGet, irqPending, irqSetPending, irqClearPending, irqActivate, irqLine, irqTrigger, itsPlace, itsMapEvent, itsMapDevice, itsMove, itsMapCollection, itsDiscard, itsLookup, itsUnmapDevice, itsUnmapCollection, itsSave, itsRestore}
+use Rattle.step.specs.Step.{Call, step, stateLen, vcpusStart, vcpusStop, setup, vcpuAdd, redistBase, vgicSet as setVgic, itsSet as setIts, vgicGet, itsGet, irqPending, irqSetPending, irqClearPending, irqActivate, irqLine, irqTrigger, itsPlace, itsMapEvent, itsMapDevice, itsMove, itsMapCollection, itsDiscard, itsLookup, itsUnmapDevice, itsUnmapCollection, itsSave, itsRestore, itsExplain}
 use Rattle.claims.specs.Claims.{Passed}
 use Rattle.claims.specs.Demand3.{Open}
 use Rattle.claims.proofs.Still.{change-still}
@@ -221,7 +221,7 @@ is-open s mem =
     P e = e ≡ 0 → Open s mem
 
 restored-sound : (s mem : List ℕ) → Sound s → Open s mem → (o : Out) → restored (decode s) mem ≡ o → Sound (restoredTo s o .lent)
-restored-sound s mem h p (fault e) q = h
+restored-sound s mem h p (fault f) q = h
 restored-sound s mem h p (found k) q =
     let a = says s h in
     mapped-sound k s (h .long) (a .counts) (a .good .rules) (restored-ok (decode s) mem (a .good .rules) (p .placed) (p .size) k q) (h .bytes)
@@ -297,3 +297,4 @@ sound-stays (itsMove device event icid) s v p b h = command-sound (Move device e
 sound-stays (itsLookup device event) s v p b h = h
 sound-stays itsSave s v p b h = h
 sound-stays itsRestore s v p b h = restore-sound s v h
+sound-stays itsExplain s v p b h = h

@@ -5,7 +5,7 @@ use mathlib.Core.Bool.{true}
 use mathlib.Core.List.{List}
 use Rattle.answers.specs.Errno.{listed}
 use Rattle.answers.specs.Answer.{refusal, done}
-use Rattle.step.specs.Step.{Call, After, stateLen, vcpusStart, vcpusStop, setup, vcpuAdd, redistBase, vgicSet, itsSet, vgicGet, itsGet, irqPending, irqSetPending, irqClearPending, irqActivate, irqLine, irqTrigger, itsPlace, itsMapEvent, itsMapDevice, itsMove, itsMapCollection, itsDiscard, itsLookup, itsUnmapDevice, itsUnmapCollection, itsSave, itsRestore}
+use Rattle.step.specs.Step.{Call, After, stateLen, vcpusStart, vcpusStop, setup, vcpuAdd, redistBase, vgicSet, itsSet, vgicGet, itsGet, irqPending, irqSetPending, irqClearPending, irqActivate, irqLine, irqTrigger, itsPlace, itsMapEvent, itsMapDevice, itsMove, itsMapCollection, itsDiscard, itsLookup, itsUnmapDevice, itsUnmapCollection, itsSave, itsRestore, itsExplain}
 
 -- §10.2: an answer of 0 or more; or a refusal (§2.1) by one of the nine errnos of §2.2, and then state and lent bytes
 -- are as they were (§2.4)
@@ -42,3 +42,4 @@ Passed (itsMove device event icid) = Unit {0}
 Passed (itsLookup device event) = Unit {0}
 Passed itsSave = Unit {0}
 Passed itsRestore = Unit {0}
+Passed itsExplain = Unit {0}

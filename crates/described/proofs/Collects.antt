@@ -6,27 +6,27 @@ use mathlib.Core.Bool.{true, false}
 use mathlib.Core.Logic.{⊎-elim}
 use mathlib.Core.List.{List, [], _∷_}
 use lib.ListN.{length, take, drop, length-append, length-take, length-drop}
-use lib.Dec.{ltb, leb}
-use borrow.Author.Tests.{lt-ltb, lt-leb, ltb-true, leb-false}
-use Rattle.lists.proofs.All.{All, none}
+use borrow.Author.Tests.{lt-leb, leb-false}
+use Rattle.lists.proofs.All.{All, none, more}
 use Rattle.areas.proofs.Has.{has}
 use Rattle.entries.specs.Collection.{isCollection}
 use Rattle.entries.proofs.Laws.{collection-of-fits}
 use Rattle.guest.specs.Machine.{Machine}
 use Rattle.mapping.specs.declared.Collection.{Collection}
 use Rattle.mapping.specs.Mapped.{Mapped, collectionKey, empty, noCollection, placeOf, insertedAt, rising}
-use Rattle.mapping.specs.Commands.{hasCollection, withCollections}
+use Rattle.mapping.specs.Commands.{withCollections}
 use Rattle.mapping.specs.Meaning.{CollectionRules}
 use Rattle.chains.proofs.Scan.{lt-or-ge}
 use Rattle.chains.proofs.Way.{choose-cases}
-use Rattle.tables.specs.Bytes.{entryAt}
-use Rattle.tables.specs.Bytes.{collectionAt}
+use Rattle.tables.specs.Bytes.{entryAt, collectionAt}
+use Rattle.tables.specs.Fault.{atCollection}
 use Rattle.described.specs.Described.{Collections}
-use Rattle.tables.specs.Restored.{found, visitCollection, readCollections}
+use Rattle.tables.specs.Restored.{found, collectionTests, putCollection, visitCollection, readCollections}
 use Rattle.lists.proofs.Member.{In, all-in, all-weaker, in-at, at-in}
 use Rattle.mapping.proofs.Edits.{in-inserted, inserted-in, all-inserted}
 use Rattle.mapping.proofs.Rise.{isKey, no-key, key-none, rising-nil, rising-same, rising-inserted}
-use Rattle.described.proofs.Walks.{no-fault, then-says}
+use Rattle.described.proofs.Tried.{Passed, tried-is, tried-says}
+use Rattle.described.proofs.Walks.{then-says}
 
 -- rows with a row put in at its place
 abbrev put : Collection → List Collection → List Collection
@@ -38,32 +38,30 @@ length-inserted i x l = omega (arith, length-append (take i l) (x ∷ drop i l),
 
 module _ (m : Machine) (t : List ℕ) where
   -- a collection that may come next
-  record Fresh (i : ℕ) (cs : List Collection) : Type 0 where
+  pub record Fresh (i : ℕ) (cs : List Collection) : Type 0 where
     pub pe : collectionAt t i .pe < length (m .vcpus)
     pub new : has (isKey collectionKey (collectionAt t i .icid)) cs ≡ false
     pub room : length cs < 16
 
-  visit-is : (i : ℕ) (k : Mapped) → Fresh i (k .collections) → visitCollection m t i k ≡ found (withCollections (put (collectionAt t i) (k .collections)) k)
-  unfolding visitCollection
-  visit-is i k f =
-      rw (lt-ltb (collectionAt t i .pe) (length (m .vcpus)) (f .pe), f .new, lt-leb 16 (length (k .collections)) (f .room))
+  passed : (i : ℕ) (k : Mapped) → Fresh i (k .collections) → Passed (collectionTests m (collectionAt t i) k)
+  passed i k f =
+      more (lt-leb (length (m .vcpus)) (collectionAt t i .pe) (f .pe)) (more (f .new) (more (lt-leb 16 (length (k .collections)) (f .room)) none))
 
-  visit-says : (i : ℕ) (k h : Mapped) → visitCollection m t i k ≡ found h
-      → Fresh i (k .collections) × (h ≡ withCollections (put (collectionAt t i) (k .collections)) k)
+  pub passes : (i : ℕ) (k : Mapped) → Passed (collectionTests m (collectionAt t i) k) → Fresh i (k .collections)
+  passes i k (more a (more b (more c none))) =
+      record { pe = leb-false (length (m .vcpus)) (collectionAt t i .pe) a; new = b; room = leb-false 16 (length (k .collections)) c }
+
+  visit-is : (i : ℕ) (k : Mapped) → Fresh i (k .collections) → visitCollection m t i k ≡ found (putCollection (collectionAt t i) k)
   unfolding visitCollection
-  visit-says i k h p = ⊎-elim
-      (λ a. ⊎-elim
-      (λ b. no-fault (b .1))
-      (λ b. ⊎-elim
-      (λ c. no-fault (c .1))
-      (λ c. (
-        record { pe = ltb-true (collectionAt t i .pe) (length (m .vcpus)) (a .0); new = b .0; room = leb-false 16 (length (k .collections)) (c .0) },
-        let q = c .1 in cc,
-      ))
-      (choose-cases (leb 16 (length (k .collections))) (b .1)))
-      (choose-cases (hasCollection (collectionAt t i .icid) k) (a .1)))
-      (λ a. no-fault (a .1))
-      (choose-cases (ltb (collectionAt t i .pe) (length (m .vcpus))) p)
+  visit-is i k f = tried-is (atCollection i) (collectionTests m (collectionAt t i) k) (found (putCollection (collectionAt t i) k)) (passed i k f)
+
+  visit-says : (i : ℕ) (k h : Mapped) → visitCollection m t i k ≡ found h → Fresh i (k .collections) × (h ≡ putCollection (collectionAt t i) k)
+  unfolding visitCollection
+  visit-says i k h p =
+      let c = collectionAt t i in
+      let r = tried-says (atCollection i) (collectionTests m c k) (found (putCollection c k)) h p in
+      let q = r .1 in
+      (passes i k (r .0), cc)
 
   -- the first n entries are collections, and these are their rows
   pub record Listed (n : ℕ) (cs : List Collection) : Type 0 where
@@ -76,7 +74,7 @@ module _ (m : Machine) (t : List ℕ) where
     pub rise : rising collectionKey cs ≡ true
     pub parts : All (CollectionRules m) cs
 
-  listed-none : Listed 0 []
+  pub listed-none : Listed 0 []
   listed-none = record {
     count = refl;
     few = omega arith;
@@ -100,7 +98,7 @@ module _ (m : Machine) (t : List ℕ) where
     two : (i : ℕ) → i < suc n → (j : ℕ) → j < suc n → collectionAt t i .icid ≡ collectionAt t j .icid → i ≡ j
     two = upto (λ i h. upto (λ j g e. l .distinct i j h g e) (λ e. absurd (other i h e))) (upto (λ j g e. absurd (other j g (sym e))) (λ e. refl))
 
-    listed-more : Listed (suc n) (put (collectionAt t n) cs)
+    pub listed-more : Listed (suc n) (put (collectionAt t n) cs)
     listed-more =
         let c = collectionAt t n in
         let at = placeOf collectionKey (c .icid) cs in
@@ -135,7 +133,7 @@ module _ (m : Machine) (t : List ℕ) where
       (λ a.
       let s = then-says (visitCollection m t i k) (readCollections m t left (suc i)) h (a .1) in
       let w = visit-says i k (s .0) (s .1) in
-      let k′ = withCollections (put (collectionAt t i) (k .collections)) k in
+      let k′ = putCollection (collectionAt t i) k in
       let q : readCollections m t left (suc i) k′ ≡ found h = rw (w .1) at (s .2) in
       let r = read-says left (suc i) k′ h (listed-more i (k .collections) l (a .0) (w .0)) q in
       let e : suc i + left ≡ i + suc left = omega arith in
@@ -170,7 +168,7 @@ module _ (m : Machine) (t : List ℕ) where
         (λ (g : i < length cs).
         let f = fresh i (k .collections) g l in
         let v = d .valid i g in
-        let r = read-is left (suc i) (withCollections (put (collectionAt t i) (k .collections)) k) (omega arith) g (listed-more i (k .collections) l v f) in
+        let r = read-is left (suc i) (putCollection (collectionAt t i) k) (omega arith) g (listed-more i (k .collections) l v f) in
         (r .0, rw (v, visit-is i k f) (r .1), r .2))
         (λ (g : length cs ≤ i).
         let x : i ≡ length cs = omega arith in

@@ -70,10 +70,10 @@ module _ (m : Machine) (mem : List ℕ) (k : Mapped) (d : Described m mem k) whe
         sym (joined-append (k .events) done (b ∷ []) ∙ rw (append-nil (eventsOf (b .id) (k .events)))) in
         λ x. record { collections = k .collections; devices = done ++ (b ∷ []); events = j x }
 
-  along : (rest done : List Device) → done ++ rest ≡ k .devices → visits (visit m mem) (map deviceKey rest) (upto k done) ≡ found (upto k (k .devices))
+  along : (rest done : List Device) → done ++ rest ≡ k .devices → visits (visit m mem true) (map deviceKey rest) (upto k done) ≡ found (upto k (k .devices))
   along [] done e = ap (λ (l : List Device). found (upto k l)) (sym (append-nil done) ∙ e)
   along (b ∷ rest) done e =
-      ap (λ (o : Out). andThen o (visits (visit m mem) (map deviceKey rest)))
+      ap (λ (o : Out). andThen o (visits (visit m mem true) (map deviceKey rest)))
       (device-in m mem (upto k done) b (eventsOf (b .id) (k .events)) (next done rest b e) ∙ ap found (after done rest b e))
       ∙ along rest (done ++ (b ∷ [])) (append-assoc done (b ∷ []) rest ∙ e)
 

@@ -11,10 +11,10 @@ use Rattle.rules.specs.Rules.{rules}
 use Rattle.mapping.specs.Mapped.{Mapped}
 use Rattle.mapping.specs.MapRules.{isPlaced, mapRules}
 use Rattle.described.specs.Described.{Described}
+use Rattle.tables.specs.Fault.{Fault}
 use Rattle.tables.specs.Restored.{Out, fault, found, restored}
 use Rattle.described.proofs.Sound.{sound}
 use Rattle.described.proofs.Complete.{complete}
-use Rattle.described.proofs.Faults.{Known, restored-fine}
 
 module _ (m : Machine) (mem : List ℕ) where
   -- at most one mapping is described
@@ -25,15 +25,11 @@ module _ (m : Machine) (mem : List ℕ) where
       cc
 
   -- a refused restore: nothing is described
-  pub refused-undescribed : (e : ℕ) → restored m mem ≡ fault e → (k : Mapped) → Described m mem k → ⊥
-  refused-undescribed e p k d =
+  pub refused-undescribed : (f : Fault) → restored m mem ≡ fault f → (k : Mapped) → Described m mem k → ⊥
+  refused-undescribed f p k d =
       let a = complete m mem k d in
       let z : _≡_ {A = ℕ} 0 1 = cc in
       omega arith
-
-  -- the number of the first fault (§9.2) is -12, -14 or -22
-  pub fault-known : (e : ℕ) → restored m mem ≡ fault e → Known e
-  fault-known e p = restored-fine m mem e p
 
   -- a sound guest with its tables placed, and the whole of its memory
   module _ (r : rules m ≡ true) (p : isPlaced m ≡ true) (n : length mem ≡ m .memory .length) where
@@ -45,12 +41,12 @@ module _ (m : Machine) (mem : List ℕ) where
     exact k = (accepted-described k, complete m mem k)
 
     -- §10.6: it is refused exactly where nothing is described
-    pub refused-exact : ((e : ℕ) × (restored m mem ≡ fault e)) ↔ ((k : Mapped) → Described m mem k → ⊥)
-    refused-exact = (λ q. refused-undescribed (q .0) (q .1), λ f. by f (restored m mem) refl)
+    pub refused-exact : ((f : Fault) × (restored m mem ≡ fault f)) ↔ ((k : Mapped) → Described m mem k → ⊥)
+    refused-exact = (λ q. refused-undescribed (q .0) (q .1), λ n. by n (restored m mem) refl)
       where
-        by : ((k : Mapped) → Described m mem k → ⊥) → (o : Out) → restored m mem ≡ o → (e : ℕ) × (restored m mem ≡ fault e)
-        by f (fault e) q = (e, q)
-        by f (found k) q = absurd (f k (accepted-described k q))
+        by : ((k : Mapped) → Described m mem k → ⊥) → (o : Out) → restored m mem ≡ o → (f : Fault) × (restored m mem ≡ fault f)
+        by n (fault f) q = (f, q)
+        by n (found k) q = absurd (n k (accepted-described k q))
 
     -- the mapping that is read keeps the rules
     pub restored-ok : (k : Mapped) → restored m mem ≡ found k → mapRules m k ≡ true

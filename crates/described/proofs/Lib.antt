@@ -1,3 +1,4 @@
+pub mod Tried
 pub mod Walks
 pub mod Places
 pub mod Collects

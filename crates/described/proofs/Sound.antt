@@ -23,15 +23,15 @@ use Rattle.mapping.proofs.Edits.{kept-append, kept-whole, kept-none}
 use Rattle.mapping.proofs.Rise.{rises, risen, rising-one, rising-append}
 use Rattle.mapping.proofs.Meaning.{mapping-is, event-small}
 use Rattle.chains.specs.Slots.{Slots, Links}
-use Rattle.tables.specs.Bytes.{entryAt, deviceTable, collectionTable, ittTable, deviceSlots}
+use Rattle.tables.specs.Bytes.{entryAt, deviceAt, deviceTable, collectionTable, ittTable, deviceSlots}
 use Rattle.tables.specs.Saved.{isOf, eventsOf}
 use Rattle.described.specs.Described.{Chain, DeviceFields, Itt, Described}
-use Rattle.tables.specs.Restored.{Out, found, andThen, deviceAt, readCollections, readDevices, restored}
+use Rattle.tables.specs.Restored.{Out, found, andThen, readCollections, readDevices, restored}
 use Rattle.described.proofs.Walks.{then-says, visits, walk-says}
 use Rattle.described.proofs.Places.{Ready, ready, tables-last}
 use Rattle.described.proofs.Collects.{Gathered, gathered}
 use Rattle.described.proofs.Events.{held-inside, held-rise}
-use Rattle.described.proofs.Devices.{withDevice, Next, visit, device-out, device-pos, device-small}
+use Rattle.described.proofs.Devices.{withDevice, Next, visit, device-out, device-stops, device-pos, device-small}
 
 module _ (m : Machine) (mem : List ℕ) (w : Ready m mem) where
   -- what is read so far; its IDs are below n
@@ -122,23 +122,23 @@ module _ (m : Machine) (mem : List ℕ) (w : Ready m mem) where
     pub collections : h .collections ≡ k .collections
 
   module _ (i n : ℕ) (k : Mapped) (p : Part n k) (above : n ≤ i) (inside : i < slots .size) where
-    step : (f : Mapped → Out) (h : Mapped) → andThen (visit m mem i k) f ≡ found h
+    step : (f : Mapped → Out) (h : Mapped) → andThen (visit m mem true i k) f ≡ found h
         → (b : Mapped) × Part (suc i) b × (map deviceKey (b .devices) ≡ map deviceKey (k .devices) ++ (i ∷ [])) × (b .collections ≡ k .collections) × (f b ≡ found h)
     step f h q =
         let d = deviceAt (deviceTable m mem) i in
-        let s = then-says (visit m mem i k) f h q in
+        let s = then-says (visit m mem true i k) f h q in
         let v = device-out m mem i k (s .0) (p .ok .few-events) (s .1) in
         let part : Part (suc i) (withDevice k d (v .0)) = part-more n k p d (v .0) above (omega (arith, w .devices)) (v .1) in
         (withDevice k d (v .0), part, map-append deviceKey (k .devices) (d ∷ []), refl, rw (v .2) at (s .2))
 
-  walked : (js : List ℕ) (i n : ℕ) (k h : Mapped) → Part n k → n ≤ i → i < slots .size → Links slots i js → visits (visit m mem) (i ∷ js) k ≡ found h → Walked k (i ∷ js) h
+  walked : (js : List ℕ) (i n : ℕ) (k h : Mapped) → Part n k → n ≤ i → i < slots .size → Links slots i js → visits (visit m mem true) (i ∷ js) k ≡ found h → Walked k (i ∷ js) h
   walked [] i n k h p above inside l q =
-      let r = step i n k p above inside (visits (visit m mem) []) h q in
+      let r = step i n k p above inside (visits (visit m mem true) []) h q in
       let s = r .4 in
       let e : r .0 ≡ h = cc in
       record { bound = suc i; part = rw e at (r .1); keys = rw e at (r .2); collections = rw e at (r .3) }
   walked (j ∷ js) i n k h p above inside l q =
-      let r = step i n k p above inside (visits (visit m mem) (j ∷ js)) h q in
+      let r = step i n k p above inside (visits (visit m mem true) (j ∷ js)) h q in
       let s = walked js j (suc i) (r .0) h (r .1) (l .0 .rises) (l .0 .inside) (l .1) (r .4) in
       record {
         bound = s .bound;
@@ -173,7 +173,7 @@ module _ (m : Machine) (mem : List ℕ) (w : Ready m mem) where
             itts = none;
           }
 
-  along : (ids : List ℕ) (h k : Mapped) → Part 0 h → Chain slots ids → visits (visit m mem) ids h ≡ found k → Walked h ids k
+  along : (ids : List ℕ) (h k : Mapped) → Part 0 h → Chain slots ids → visits (visit m mem true) ids h ≡ found k → Walked h ids k
   along [] h k p c q =
       let e : h ≡ k = cc in
       record { bound = 0; part = rw e at p; keys = rw (e, append-nil); collections = rw e }
@@ -185,7 +185,7 @@ module _ (m : Machine) (mem : List ℕ) (w : Ready m mem) where
       let t = collectionTable m mem in
       let s = then-says (readCollections m t (length t / 8) 0 empty) (readDevices m mem) k p in
       let g = gathered m t (s .0) (s .1) in
-      let c = walk-says slots (visit m mem) (device-pos (deviceTable m mem)) (device-small (deviceTable m mem)) (s .0) k (s .2) in
+      let c = walk-says slots (visit m mem) (device-pos (deviceTable m mem)) (device-stops m mem) (device-small (deviceTable m mem)) (s .0) k (s .2) in
       let a = along (c .0) (s .0) k (start (s .0) g) (c .1) (c .2) in
       let n : s .0 .devices ≡ [] = ap (λ (h : Mapped). h .devices) (g .is) in
       let e : map deviceKey (k .devices) ≡ c .0 = a .keys ∙ rw n in

@@ -2,27 +2,26 @@
 -- rests on them: the theorems of this crate hold them against those of chains, tables and described.
 use Prim.Native.Nat.{ℕ, zero, suc, _+_, _-_, _*_, _/_, _^_, _<_, min}
 use mathlib.Core.Path.{_≡_}
-use mathlib.Core.Bool.{true}
-use mathlib.Core.List.{List, [], _∷_, _++_, map}
+use mathlib.Core.Bool.{Bool, true}
+use mathlib.Core.List.{List, [], _∷_, map}
 use lib.ListN.{length}
 use lib.Dec.{ltb, leb, eqb}
 use Rattle.lists.specs.Rows.{choose}
 use Rattle.lists.proofs.All.{All}
 use Rattle.words.specs.Words.{putAt}
-use Rattle.areas.specs.Area.{inside, strikes}
 use Rattle.guest.specs.Machine.{Machine}
-use Rattle.rules.specs.Rules.{memoryArea}
 use Rattle.mapping.specs.declared.Device.{Device}
 use Rattle.mapping.specs.declared.Event.{Event}
-use Rattle.mapping.specs.Mapped.{Mapped, empty, deviceKey, ittArea}
-use Rattle.mapping.specs.Commands.{deviceEntries, tableAreas, withDevices}
+use Rattle.mapping.specs.Mapped.{Mapped, empty, deviceKey}
+use Rattle.mapping.specs.Commands.{deviceEntries}
 use Rattle.mapping.specs.MapRules.{mappingOk}
 use Rattle.chains.specs.declared.Next.{Next}
 use Rattle.chains.specs.declared.Next.the-variants.{Last, At, Bad}
 use Rattle.chains.specs.Slots.{Slots, firstFrom, Path, broken, onward, Blank}
-use Rattle.tables.specs.Bytes.{deviceTable, collectionTable, ittTable, deviceSlots, eventSlots}
+use Rattle.tables.specs.Bytes.{deviceAt, deviceTable, collectionTable, ittTable, deviceSlots, eventSlots}
+use Rattle.tables.specs.Fault.{atDevice}
 use Rattle.tables.specs.Saved.{deviceEntry, eventEntry, eventId, eventsOf, savedCollection, tableOf}
-use Rattle.tables.specs.Restored.{Out, fault, found, andThen, run, readCollections, visitEvent, deviceAt}
+use Rattle.tables.specs.Restored.{Out, found, andThen, tried, run, readCollections, visitEvent, deviceTests, putDevice}
 use Rattle.described.specs.Described.{Collections, firstId, DeviceFields, EventFields}
 
 abbrev pub deviceLimit : ℕ
@@ -78,7 +77,7 @@ cappedPath cap T (suc fuel) i = onward i (cappedPath cap T fuel) (cappedFollowin
 
 -- ---- restore
 
-unfoldable pub cappedWalk : ℕ → Slots → (ℕ → Mapped → Out) → Mapped → Out
+unfoldable pub cappedWalk : ℕ → Slots → (Bool → ℕ → Mapped → Out) → Mapped → Out
 cappedWalk cap T visit k =
     let p = cappedPath cap T (T .size) (firstFrom T 0) in
     choose (ltb (firstFrom T 0) (T .size)) (run visit p k) (found k)
@@ -86,16 +85,10 @@ cappedWalk cap T visit k =
 unfoldable pub cappedEvents : List ℕ → ℕ → Mapped → Out
 cappedEvents t id k = cappedWalk eventLimit (eventSlots t) (visitEvent t id) k
 
-unfoldable pub cappedVisit : Machine → List ℕ → List ℕ → ℕ → Mapped → Out
-cappedVisit m mem t i k =
+unfoldable pub cappedVisit : Machine → List ℕ → List ℕ → Bool → ℕ → Mapped → Out
+cappedVisit m mem t good i k =
     let d = deviceAt t i in
-    choose (leb (d .bits) 16)
-    (choose (leb 32 (length (k .devices))) (fault 12)
-    (choose (inside (memoryArea (m .memory)) (ittArea d))
-    (choose (strikes (tableAreas m (k .devices)) (ittArea d)) (fault 22)
-    (cappedEvents (ittTable m mem d) i (withDevices (k .devices ++ (d ∷ [])) k)))
-    (fault 14)))
-    (fault 22)
+    tried (atDevice i) (deviceTests good m d k) (cappedEvents (ittTable m mem d) i (putDevice d k))
 
 unfoldable pub cappedDevices : Machine → List ℕ → Mapped → Out
 cappedDevices m mem k = cappedWalk deviceLimit (deviceSlots (deviceTable m mem)) (cappedVisit m mem (deviceTable m mem)) k

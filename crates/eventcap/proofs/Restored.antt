@@ -2,19 +2,20 @@
 use Prim.Native.Nat.{ℕ, zero, suc, _/_, _^_, _≤_}
 use native.Mathlib.Omega.{arith}
 use mathlib.Core.Path.{_≡_, refl, ap, _∙_, fun-ext}
-use mathlib.Core.Bool.{Bool, true, false}
-use mathlib.Core.List.{List, [], _∷_, _++_}
+use mathlib.Core.Bool.{Bool}
+use mathlib.Core.List.{List}
 use lib.ListN.{length, length-take}
-use lib.Dec.{leb}
 use lib.Pow.{pow-mono}
-use borrow.Author.Tests.{leb-true}
+use borrow.Author.Tests.{ltb-false}
+use Rattle.lists.proofs.All.{more}
 use Rattle.guest.specs.Machine.{Machine}
 use Rattle.mapping.specs.declared.Device.{Device}
 use Rattle.mapping.specs.Mapped.{Mapped, empty}
-use Rattle.mapping.specs.Commands.{withDevices}
 use Rattle.chains.specs.Slots.{Slots, firstFrom, following, Path, onward, path}
-use Rattle.tables.specs.Bytes.{areaBytes, deviceTable, collectionTable, ittTable, deviceSlots, eventSlots}
-use Rattle.tables.specs.Restored.{Out, andThen, walk, readCollections, visitEvent, readEvents, deviceAt, visitDevice, readDevices, restored}
+use Rattle.tables.specs.Bytes.{areaBytes, deviceAt, deviceTable, collectionTable, ittTable, deviceSlots, eventSlots}
+use Rattle.tables.specs.Fault.{atDevice}
+use Rattle.tables.specs.Restored.{Out, andThen, walk, readCollections, visitEvent, readEvents, deviceTests, putDevice, visitDevice, readDevices, restored}
+use Rattle.described.proofs.Tried.{Passed, tried-same}
 use Rattle.eventcap.proofs.Capped.{deviceLimit, eventLimit, cappedFollowing, cappedPath, cappedWalk, cappedEvents, cappedVisit, cappedDevices, cappedRestored}
 use Rattle.eventcap.proofs.Ways.{device-ways, event-ways}
 
@@ -25,7 +26,7 @@ module _ (cap : ℕ) (T : Slots) (ways : (i : ℕ) → cappedFollowing cap T i �
   path-same zero i = refl
   path-same (suc fuel) i = rw (ways i) (ap (λ (rest : ℕ → Path). onward i rest (following T i)) (fun-ext (λ j. path-same fuel j)))
 
-  walk-same : (v : ℕ → Mapped → Out) (k : Mapped) → cappedWalk cap T v k ≡ walk T v k
+  walk-same : (v : Bool → ℕ → Mapped → Out) (k : Mapped) → cappedWalk cap T v k ≡ walk T v k
   unfolding cappedWalk walk
   walk-same v k = rw (path-same (T .size) (firstFrom T 0))
 
@@ -41,13 +42,18 @@ unfolding cappedEvents readEvents
 events-same t few id k = walk-same eventLimit (eventSlots t) (event-ways t few) (visitEvent t id) k
 
 -- size is tested before the events are read
-visit-same : (m : Machine) (mem t : List ℕ) (i : ℕ) (k : Mapped) → cappedVisit m mem t i k ≡ visitDevice m mem t i k
+visit-same : (m : Machine) (mem t : List ℕ) (good : Bool) (i : ℕ) (k : Mapped) → cappedVisit m mem t good i k ≡ visitDevice m mem t good i k
 unfolding cappedVisit visitDevice
-visit-same m mem t i k = by (leb (deviceAt t i .bits) 16) refl
+visit-same m mem t good i k =
+    let u = ittTable m mem d in
+    tried-same (atDevice i) (deviceTests good m d k) (cappedEvents u i (putDevice d k)) (readEvents u i (putDevice d k))
+    (λ a. events-same u (itt-few m mem d (most a)) i (putDevice d k))
   where
-    by : (b : Bool) → leb (deviceAt t i .bits) 16 ≡ b → cappedVisit m mem t i k ≡ visitDevice m mem t i k
-    by true e = rw (events-same (ittTable m mem (deviceAt t i)) (itt-few m mem (deviceAt t i) (leb-true (deviceAt t i .bits) 16 e)) i (withDevices (k .devices ++ (deviceAt t i ∷ [])) k))
-    by false e = rw e
+    d : Device
+    d = deviceAt t i
+
+    most : Passed (deviceTests good m d k) → d .bits ≤ 16
+    most (more a (more b r)) = ltb-false 16 (d .bits) b
 
 module _ (m : Machine) (mem : List ℕ) where
   devices-same : (k : Mapped) → cappedDevices m mem k ≡ readDevices m mem k
@@ -55,7 +61,8 @@ module _ (m : Machine) (mem : List ℕ) where
   devices-same k =
       let t = deviceTable m mem in
       walk-same deviceLimit (deviceSlots t) (device-ways t) (cappedVisit m mem t) k
-      ∙ ap (λ (v : ℕ → Mapped → Out). walk (deviceSlots t) v k) (fun-ext (λ i. fun-ext (λ h. visit-same m mem t i h)))
+      ∙ ap (λ (v : Bool → ℕ → Mapped → Out). walk (deviceSlots t) v k)
+      (fun-ext (λ good. fun-ext (λ i. fun-ext (λ h. visit-same m mem t good i h))))
 
   pub restored-same : cappedRestored m mem ≡ restored m mem
   unfolding cappedRestored restored

@@ -47,11 +47,19 @@ pub fn put_hexadecimal(out: &mut [u8], at: usize, n: u64, end: u8) -> usize
     put_ended(out, at, &digits[..k], end)
 }
 
-// A word and a number in decimal, as a line.
+// A word, a number in decimal and the byte that ends it.
+pub fn put_number(out: &mut [u8], at: usize, word: &[u8], n: u64, end: u8) -> usize
+    requires { ⌜ at + length (now word) + 21 ≤ length (now out) ⌝ }
+    ensures { λ r. ⌜ Adds (now (out .entry)) at (now (word .entry) ++ decimal n ++ (end ∷ [])) (length (now (word .entry)) + 21) (now (out .exit)) r ⌝ }
+{
+    let number = put_text(out, at, word);
+    put_decimal(out, number, n, end)
+}
+
+// The same as a line.
 pub fn put_line(out: &mut [u8], at: usize, word: &[u8], n: u64) -> usize
     requires { ⌜ at + length (now word) + 21 ≤ length (now out) ⌝ }
     ensures { λ r. ⌜ Adds (now (out .entry)) at (now (word .entry) ++ decimal n ++ ascii "\n") (length (now (word .entry)) + 21) (now (out .exit)) r ⌝ }
 {
-    let number = put_text(out, at, word);
-    put_decimal(out, number, n, b'\n')
+    put_number(out, at, word, n, b'\n')
 }

@@ -7,7 +7,7 @@ use mathlib.Core.List.{List}
 use lib.ListN.{length}
 use lib.Seq.{take-length}
 use lib.Dec.{leb}
-use borrow.Author.Tests.{lt-ltb, le-ltb, le-leb, lt-leb}
+use borrow.Author.Tests.{le-leb, lt-leb}
 use Rattle.lists.specs.Rows.{choose}
 use Rattle.lists.proofs.Find.{row-le}
 use Rattle.entries.specs.declared.CollectionEntry.{CollectionEntry}
@@ -22,10 +22,11 @@ use Rattle.layout.proofs.InPlace.{vcpus-few}
 use Rattle.maplayout.specs.MapLayout.{decodeMap}
 use Rattle.maplayout.specs.Added.{collectionAdded}
 use Rattle.tables.specs.Bytes.{entryAt}
+use Rattle.tables.specs.Fault.{atCollection, faultPe, faultRepeat, fault17th, at as faultAt}
 use Rattle.tables.specs.Restored.{Out, fault, found, andThen, visitCollection, readCollections}
-use Rattle.restore.specs.Begun.{Over, Begun, Steps}
+use Rattle.restore.specs.Begun.{Over, Begun, ByCode, ByKind, Steps}
 use Rattle.restore.proofs.Over.{same-guest, same-rows, guest-counted, over-collection}
-use Rattle.restore.proofs.Answers.{gives-fault, gives-found, gives-as, stopped, went}
+use Rattle.restore.proofs.Answers.{gives-kind, gives-found, gives-as, stopped, went}
 use Rattle.restore.proofs.Searches.{collections-size, stands, lacks}
 
 -- a place among all rows is not past their end
@@ -36,24 +37,24 @@ place-fits icid l at e =
 
 -- the visit of an entry, by the tests of the code on what was read of it
 module _ (m : Machine) (t : List ℕ) (i : ℕ) (k : Mapped) (c : CollectionEntry) (p : c ≡ collectionOf (entryAt t i)) where
-  high : length (m .vcpus) ≤ c .pe → fault 22 ≡ visitCollection m t i k
+  high : length (m .vcpus) ≤ c .pe → fault (faultAt (atCollection i) faultPe) ≡ visitCollection m t i k
   unfolding visitCollection
-  high h = rw (← p, le-ltb (c .pe) (length (m .vcpus)) h)
+  high h = rw (← p, le-leb (length (m .vcpus)) (c .pe) h)
 
   module _ (h : c .pe < length (m .vcpus)) where
-    again : hasCollection (c .icid) k ≡ true → fault 22 ≡ visitCollection m t i k
+    again : hasCollection (c .icid) k ≡ true → fault (faultAt (atCollection i) faultRepeat) ≡ visitCollection m t i k
     unfolding visitCollection
-    again s = rw (← p, lt-ltb (c .pe) (length (m .vcpus)) h, s)
+    again s = rw (← p, lt-leb (length (m .vcpus)) (c .pe) h, s)
 
     module _ (s : hasCollection (c .icid) k ≡ false) where
-      full : 16 ≤ length (k .collections) → fault 12 ≡ visitCollection m t i k
+      full : 16 ≤ length (k .collections) → fault (faultAt (atCollection i) fault17th) ≡ visitCollection m t i k
       unfolding visitCollection
-      full n = rw (← p, lt-ltb (c .pe) (length (m .vcpus)) h, s, le-leb 16 (length (k .collections)) n)
+      full n = rw (← p, lt-leb (length (m .vcpus)) (c .pe) h, s, le-leb 16 (length (k .collections)) n)
 
       new : length (k .collections) < 16 → (j : ℕ) → j ≡ placeOf collectionKey (c .icid) (k .collections)
           → found (withCollections (insertedAt j (record { icid = c .icid; pe = c .pe }) (k .collections)) k) ≡ visitCollection m t i k
       unfolding visitCollection
-      new n j e = rw (← p, lt-ltb (c .pe) (length (m .vcpus)) h, s, lt-leb 16 (length (k .collections)) n, ← e)
+      new n j e = rw (← p, lt-leb (length (m .vcpus)) (c .pe) h, s, lt-leb 16 (length (k .collections)) n, ← e)
 
 -- the same, on the bytes that hold the mapping so far
 module _ (t : List ℕ) (i : ℕ) (s : List ℕ) (w : ℕ) (c : CollectionEntry) (p : w ≡ entryAt t i) (q : c ≡ collectionOf w)
@@ -64,24 +65,24 @@ module _ (t : List ℕ) (i : ℕ) (s : List ℕ) (w : ℕ) (c : CollectionEntry)
   vcpus : {z : List ℕ} {k : Mapped} → Over z k s → v ≡ length (decode z .vcpus)
   vcpus o = n ∙ ap (λ (m : Machine). length (m .vcpus)) (same-guest o)
 
-  pub collection-high : v ≤ c .pe → Steps (λ m. visitCollection m t i) s 22 s
-  collection-high h z k o = let e = vcpus o in gives-fault 22 (omega arith) (high (decode z) t i k c row-read (omega arith))
+  pub collection-high : v ≤ c .pe → Steps (ByKind (atCollection i)) (λ m. visitCollection m t i) s 1 s
+  collection-high h z k o = let e = vcpus o in gives-kind (atCollection i) faultPe (high (decode z) t i k c row-read (omega arith))
 
   module _ (h : c .pe < v) (at count : ℕ) (e : at ≡ indexOfCollection (c .icid) (decodeMap s)) (f : count ≡ length (decodeMap s .collections)) where
-    pub collection-again : at < count → Steps (λ m. visitCollection m t i) s 22 s
+    pub collection-again : at < count → Steps (ByKind (atCollection i)) (λ m. visitCollection m t i) s 2 s
     collection-again g z k o =
         let x = vcpus o in
-        gives-fault 22 (omega arith) (again (decode z) t i k c row-read (omega arith) (stands o (c .icid) at count e f g))
+        gives-kind (atCollection i) faultRepeat (again (decode z) t i k c row-read (omega arith) (stands o (c .icid) at count e f g))
 
     module _ (g : count ≤ at) where
-      pub collection-full : 16 ≤ count → Steps (λ m. visitCollection m t i) s 12 s
+      pub collection-full : 16 ≤ count → Steps (ByKind (atCollection i)) (λ m. visitCollection m t i) s 3 s
       collection-full j z k o =
           let x = vcpus o in
           let y = collections-size o (c .icid) at count e f in
-          gives-fault 12 (omega arith) (full (decode z) t i k c row-read (omega arith) (lacks o (c .icid) at count e f g) (omega arith))
+          gives-kind (atCollection i) fault17th (full (decode z) t i k c row-read (omega arith) (lacks o (c .icid) at count e f g) (omega arith))
 
       pub collection-new : count < 16 → (j : ℕ) → j ≡ placeOf collectionKey (c .icid) (decodeMap s .collections)
-          → (u : List ℕ) → u ≡ collectionAdded j (record { icid = c .icid; pe = c .pe }) s → Steps (λ m. visitCollection m t i) s 0 u
+          → (u : List ℕ) → u ≡ collectionAdded j (record { icid = c .icid; pe = c .pe }) s → Steps (ByKind (atCollection i)) (λ m. visitCollection m t i) s 0 u
       collection-new b j d u a z k o =
           let x = vcpus o in
           let y = collections-size o (c .icid) at count e f in
@@ -123,7 +124,7 @@ module _ (t : List ℕ) (s₀ : List ℕ) where
     pub collections-begun : Begun s₀ → Begun s
     collections-begun b = let l = v .left (b .from) (b .rows) (b .over) in record { from = b .from; rows = l .rows; over = l .over }
 
-    pub collections-end : n ≤ i → Steps whole s₀ 0 s
+    pub collections-end : n ≤ i → Steps ByCode whole s₀ 0 s
     unfolding readCollections
     collections-end h z k o =
         let l = v .left z k o in
@@ -140,17 +141,17 @@ module _ (t : List ℕ) (s₀ : List ℕ) where
           let g : isCollection (entryAt t i) ≡ b = sym (q ∙ ap isCollection p) in
           rw f (rw (e, f, g) at r)
 
-      pub collections-blank : b ≡ false → Steps whole s₀ 0 s
+      pub collections-blank : b ≡ false → Steps ByCode whole s₀ 0 s
       collections-blank e z k o =
           let l = v .left z k o in
           gives-found (l .rows) (l .over) (rw e at (turn (decode z) (l .rows) _ (l .rest)))
 
-      module _ (e : b ≡ true) (r : ℕ) (u : List ℕ) (d : Steps (λ m. visitCollection m t i) s r u) where
+      module _ (e : b ≡ true) (r : ℕ) (u : List ℕ) (d : Steps ByCode (λ m. visitCollection m t i) s r u) where
         next : (m : Machine) (k : Mapped) (answer : Out) → readCollections m t (n - i) i k ≡ answer
             → andThen (visitCollection m t i k) (readCollections m t (n - (i + 1)) (i + 1)) ≡ answer
         next m k answer x = rw e at (turn m k answer x)
 
-        pub collections-fault : (r ≡ 0 → ⊥) → Steps whole s₀ r u
+        pub collections-fault : (r ≡ 0 → ⊥) → Steps ByCode whole s₀ r u
         collections-fault y z k o =
             let l = v .left z k o in
             gives-as (stopped (d z (l .rows) (l .over)) y _) (next (decode z) (l .rows) _ (l .rest))

@@ -2,7 +2,7 @@
 use Prim.Native.Nat.{ℕ, zero, suc, _+_, _-_, _/_, _≤_, _<_}
 use native.Mathlib.Omega.{arith}
 use mathlib.Core.Path.{_≡_, sym, ap, _∙_}
-use mathlib.Core.Bool.{Bool}
+use mathlib.Core.Bool.{Bool, true, false}
 use mathlib.Core.List.{List}
 use lib.ListN.{length}
 use borrow.Author.Tests.{lt-ltb, le-ltb}
@@ -13,12 +13,12 @@ use Rattle.chains.proofs.Way.{led}
 use Rattle.guest.specs.Machine.{Machine}
 use Rattle.mapping.specs.Mapped.{Mapped}
 use Rattle.layout.specs.Layout.{decode}
-use Rattle.tables.specs.Restored.{Out, fault, found, andThen, run, walk}
+use Rattle.tables.specs.Restored.{Out, found, andThen, run, walk}
 use Rattle.restore.specs.Both.{slotsOf}
 use Rattle.restore.proofs.Both.{cap-pos, next-small}
-use Rattle.restore.specs.Begun.{Over, Begun, Steps}
+use Rattle.restore.specs.Begun.{Over, Begun, ByCode, Steps}
 use Rattle.restore.proofs.Over.{same-guest}
-use Rattle.restore.proofs.Answers.{gives-fault, gives-found, gives-as, stopped, went}
+use Rattle.restore.proofs.Answers.{gives-found, gives-as, stopped, went}
 
 unfolds : (T : Slots) (fuel i : ℕ) → i < T .size → T .size ≤ i + fuel → (n : Next) → n ≡ following T i → path T fuel i ≡ onward i (path T (fuel - 1)) n
 unfolding path
@@ -27,7 +27,7 @@ unfolds T (suc fuel) i h f n e =
     let x : suc fuel - 1 ≡ fuel = omega arith in
     rw (← e, x)
 
-module _ (device : Bool) (t : List ℕ) (visit : ℕ → Mapped → Out) (answer : Out) where
+module _ (device : Bool) (t : List ℕ) (visit : Bool → ℕ → Mapped → Out) (answer : Out) where
   pub record Going (i : ℕ) (k : Mapped) : Type 0 where
     pub fuel : ℕ
     pub inside : i < length t / 8
@@ -53,11 +53,11 @@ module _ (device : Bool) (t : List ℕ) (visit : ℕ → Mapped → Out) (answer
     unfolding slotsOf
     after = ap (λ (p : Path). run visit p k) (sym (unfolds (slotsOf device t) (g .fuel) i (g .inside) (g .enough) n e)) ∙ g .rest
 
-    go-bad : n ≡ Bad → fault 22 ≡ answer
+    go-bad : n ≡ Bad → visit false i k ≡ answer
     unfolding run
     go-bad x = rw x at after
 
-    go-last : n ≡ Last → visit i k ≡ answer
+    go-last : n ≡ Last → visit true i k ≡ answer
     unfolding run
     go-last x = rw x at after
 
@@ -65,14 +65,14 @@ module _ (device : Bool) (t : List ℕ) (visit : ℕ → Mapped → Out) (answer
       link : Link (slotsOf device t) i j
       link = led (slotsOf device t) (cap-pos device t) i j (next-small device t i) (sym e ∙ x)
 
-      go-next : andThen (visit i k) (run visit (path (slotsOf device t) (g .fuel - 1) j)) ≡ answer
+      go-next : andThen (visit true i k) (run visit (path (slotsOf device t) (g .fuel - 1) j)) ≡ answer
       unfolding run
       go-next = rw x at after
 
       go-less : length t / 8 - j < length t / 8 - i
       go-less = let u = link .rises in let h = g .inside in omega arith
 
-      go-on : (to : Mapped) → andThen (visit i k) (run visit (path (slotsOf device t) (g .fuel - 1) j)) ≡ run visit (path (slotsOf device t) (g .fuel - 1) j) to → Going j to
+      go-on : (to : Mapped) → andThen (visit true i k) (run visit (path (slotsOf device t) (g .fuel - 1) j)) ≡ run visit (path (slotsOf device t) (g .fuel - 1) j) to → Going j to
       unfolding slotsOf
       go-on to w =
           let u = link .rises in
@@ -81,7 +81,7 @@ module _ (device : Bool) (t : List ℕ) (visit : ℕ → Mapped → Out) (answer
           record { fuel = g .fuel - 1; inside = link .inside; enough = omega arith; rest = sym w ∙ go-next }
 
 -- the bytes at each turn, from s₀ at the start: they hold the mapping that was read so far, and what is left of the path has the answer
-module _ (device : Bool) (t : List ℕ) (visit : Machine → ℕ → Mapped → Out) (whole : Machine → Mapped → Out) where
+module _ (device : Bool) (t : List ℕ) (visit : Machine → Bool → ℕ → Mapped → Out) (whole : Machine → Mapped → Out) where
   pub record Reached (z : List ℕ) (answer : Out) (i : ℕ) (s : List ℕ) : Type 0 where
     pub rows : Mapped
     pub over : Over z rows s
@@ -94,7 +94,7 @@ module _ (device : Bool) (t : List ℕ) (visit : Machine → ℕ → Mapped → 
     pub walk-start : i < length t / 8 → Walks s₀ i s₀
     walk-start h z k o = record { rows = k; over = o; going = go-start device t (visit (decode z)) _ k (e (decode z) k) i f h }
 
-    pub walk-none : length t / 8 ≤ i → Steps whole s₀ 0 s₀
+    pub walk-none : length t / 8 ≤ i → Steps ByCode whole s₀ 0 s₀
     walk-none h z k o = gives-found k o (go-none device t (visit (decode z)) _ k (e (decode z) k) i f h)
 
   module _ (s₀ : List ℕ) (i : ℕ) (s : List ℕ) (w : Walks s₀ i s) where
@@ -111,17 +111,19 @@ module _ (device : Bool) (t : List ℕ) (visit : Machine → ℕ → Mapped → 
     walk-inside b = w (b .from) (b .rows) (b .over) .going .inside
 
     module _ (n : Next) (e : n ≡ following (slotsOf device t) i) where
-      pub walk-bad : n ≡ Bad → Steps whole s₀ 22 s
-      walk-bad x z k o = gives-fault 22 (omega arith) (go-bad device t (visit (decode z)) _ i _ (w z k o .going) n e x)
+      pub walk-bad : (r : ℕ) (u : List ℕ) → Steps ByCode (λ m. visit m false i) s r u → n ≡ Bad → Steps ByCode whole s₀ r u
+      walk-bad r u v x z k o =
+          let a = w z k o in
+          gives-as (v z (a .rows) (a .over)) (go-bad device t (visit (decode z)) _ i _ (a .going) n e x)
 
-      module _ (r : ℕ) (u : List ℕ) (v : Steps (λ m. visit m i) s r u) where
-        pub walk-last : n ≡ Last → Steps whole s₀ r u
+      module _ (r : ℕ) (u : List ℕ) (v : Steps ByCode (λ m. visit m true i) s r u) where
+        pub walk-last : n ≡ Last → Steps ByCode whole s₀ r u
         walk-last x z k o =
             let a = w z k o in
             gives-as (v z (a .rows) (a .over)) (go-last device t (visit (decode z)) _ i _ (a .going) n e x)
 
         module _ (j : ℕ) (x : n ≡ At j) where
-          pub walk-fault : (r ≡ 0 → ⊥) → Steps whole s₀ r u
+          pub walk-fault : (r ≡ 0 → ⊥) → Steps ByCode whole s₀ r u
           walk-fault y z k o =
               let a = w z k o in
               gives-as (stopped (v z (a .rows) (a .over)) y _) (go-next device t (visit (decode z)) _ i _ (a .going) n e j x)

@@ -1,5 +1,5 @@
 -- What a restore asks of the bytes and of the lent memory, and what it promises.
-use Prim.Native.Nat.{ℕ, _<_}
+use Prim.Native.Nat.{ℕ}
 use mathlib.Core.Path.{_≡_}
 use mathlib.Core.Bool.{true}
 use mathlib.Core.List.{List}
@@ -8,7 +8,8 @@ use Rattle.mapping.specs.Mapped.{Mapped}
 use Rattle.mapping.specs.MapRules.{isPlaced}
 use Rattle.layout.specs.Layout.{decode, Counted}
 use Rattle.maplayout.specs.MapLayout.{storedMap}
-use Rattle.tables.specs.Restored.{Out, fault, found}
+use Rattle.tables.specs.Fault.{Fault, kindErrno, Indexed}
+use Rattle.tables.specs.Restored.{Out, fault, found, verdict}
 
 -- Inner: a guest that keeps the rules, with its tables placed, and memory of the set length; the mapping in the bytes is not read
 pub record Restorable (s : List ℕ) (len : ℕ) : Type 0 where
@@ -17,13 +18,21 @@ pub record Restorable (s : List ℕ) (len : ℕ) : Type 0 where
   pub placed : isPlaced (decode s) ≡ true
   pub memory : len ≡ decode s .memory .length
 
--- Inner: the number of a fault, 0 for none
+-- Inner: the errno of a fault, 0 for none
 abbrev pub errnoOf : Out → ℕ
-errnoOf (fault e) = e
+errnoOf (fault f) = kindErrno (f .kind)
 errnoOf (found k) = 0
 
--- Inner: where there is a fault nothing is said of the bytes left, but their length
-pub record Restores (s : List ℕ) (out : Out) (r : ℕ) (left : List ℕ) : Type 0 where
-  pub errno : r ≡ errnoOf out
-  pub named : (e : ℕ) → out ≡ fault e → 0 < e
+-- Inner: a number for what is met, and the mapping where there is no fault. Where there is one nothing is said of the bytes left, but their
+-- length
+pub record Leaves (number : Out → ℕ) (s : List ℕ) (out : Out) (r : ℕ) (left : List ℕ) : Type 0 where
+  pub is : r ≡ number out
+  pub named : (f : Fault) → out ≡ fault f → Indexed (f .place)
   pub stored : (k : Mapped) → out ≡ found k → left ≡ storedMap k s
+
+-- Inner: the code of the first fault, and a restore's errno
+abbrev pub Reads : List ℕ → Out → ℕ → List ℕ → Type 0
+Reads = Leaves verdict
+
+abbrev pub Restores : List ℕ → Out → ℕ → List ℕ → Type 0
+Restores = Leaves errnoOf

@@ -1,11 +1,10 @@
 // A restore: the ITS tables in lent guest memory are read back into the mapping of a state's bytes, row by row. Collections come
-// first, then each device with its events. Faults are met in the order of §9.3 to §9.7; the first gives the errno. The bytes are a
-// copy that the caller drops where there is a fault.
+// first, then each device with its events. Faults are met in the order of §9.3 to §9.7; the first is handed back by its code. The bytes
+// are a copy that the caller drops where there is a fault.
 mod places; // where tables lie in memory
 mod rows; // the collections read so far
 mod slots; // the chained entries of a table
 
-use answers::Errno;
 use chains::Next;
 use guest::Guest;
 use mapping::Collection;
@@ -17,13 +16,13 @@ ghost use lib.ListN.{length};
 ghost use Rattle.layout.specs.Layout.{decode};
 ghost use Rattle.maplayout.specs.MapLayout.{decodeMap};
 ghost use Rattle.tables.specs.Bytes.{deviceSlots};
+ghost use Rattle.tables.specs.Fault.{atCollection, atEvent};
 ghost use Rattle.tables.specs.Restored.{walk, visitCollection, readCollections, visitEvent, readEvents, visitDevice, restored};
-ghost use Rattle.restore.specs.Restores.{Restorable, Restores};
-ghost use Rattle.restore.specs.Begun.{Begun, Steps};
+ghost use Rattle.restore.specs.Restores.{Restorable, Reads, Restores};
+ghost use Rattle.restore.specs.Begun.{Begun, ByCode, ByKind, Steps};
 ghost use Rattle.restore.specs.Parts.{readFault};
 
-// What a part of a restore that meets no fault hands back.
-const NO_FAULT: u64 = 0;
+const NO_FAULT: u64 = codes::NO_FAULT;
 
 // LPIs are 8,192 to 65,535.
 const FIRST_LPI: u64 = 8192;
@@ -33,21 +32,21 @@ const LAST_LPI: u64 = 65535;
 // The most bits of an event ID.
 const MAX_BITS: u64 = 16;
 
-// The collection of an entry that is there, put in at its place among those read before it.
-fn visit_collection(s: &mut [u8], t: &[u8], i: usize) -> u64
+// The collection of an entry that is there, put in at its place among those read before it; or the kind of its fault.
+fn take_collection(s: &mut [u8], t: &[u8], i: usize) -> u64
     requires { ⌜ (Begun (now s)) × (i < length (now t) / 8) ⌝ }
-    ensures { λ r. ⌜ Steps (λ m. visitCollection m (now (t .entry)) i) (now (s .entry)) r (now (s .exit)) ⌝ }
+    ensures { λ r. ⌜ Steps (ByKind (atCollection i)) (λ m. visitCollection m (now (t .entry)) i) (now (s .entry)) r (now (s .exit)) ⌝ }
 {
     let e = entries::collection_entry(slots::entry_at(t, i));
     if layout::vcpu_count(s) as u64 <= e.pe {
-        return Errno::EINVAL;
+        return codes::PE;
     }
     let n = maplayout::collection_count(s);
     if rows::find_collection(s, e.icid) < n {
-        return Errno::EINVAL;
+        return codes::REPEAT;
     }
     if Guest::MAX_COLLECTIONS <= n {
-        return Errno::ENOMEM;
+        return codes::COLLECTION_17TH;
     }
     let row = Collection {
         icid: e.icid,
@@ -58,10 +57,19 @@ fn visit_collection(s: &mut [u8], t: &[u8], i: usize) -> u64
     NO_FAULT
 }
 
+// The same, with the place in the answer.
+fn visit_collection(s: &mut [u8], t: &[u8], i: usize) -> u64
+    requires { ⌜ (Begun (now s)) × (i < length (now t) / 8) × (i < 65536) ⌝ }
+    ensures { λ r. ⌜ Steps ByCode (λ m. visitCollection m (now (t .entry)) i) (now (s .entry)) r (now (s .exit)) ⌝ }
+{
+    let kind = take_collection(s, t, i);
+    codes::code_at(kind, codes::at_collection(i))
+}
+
 // The collections of a table: its entries up to the first that is blank.
 fn read_collections(s: &mut [u8], t: &[u8]) -> u64
-    requires { ⌜ Begun (now s) ⌝ }
-    ensures { λ r. ⌜ Steps (λ m. readCollections m (now (t .entry)) (length (now (t .entry)) / 8) 0) (now (s .entry)) r (now (s .exit)) ⌝ }
+    requires { ⌜ (Begun (now s)) × (length (now t) / 8 ≤ 65536) ⌝ }
+    ensures { λ r. ⌜ Steps ByCode (λ m. readCollections m (now (t .entry)) (length (now (t .entry)) / 8) 0) (now (s .entry)) r (now (s .exit)) ⌝ }
 {
     let n = t.len() / slots::ENTRY;
     let mut i: usize = 0;
@@ -69,47 +77,61 @@ fn read_collections(s: &mut [u8], t: &[u8]) -> u64
         if !entries::collection_valid(slots::entry_at(t, i)) {
             return NO_FAULT;
         }
-        let errno = visit_collection(s, t, i);
-        if errno != NO_FAULT {
-            return errno;
+        let code = visit_collection(s, t, i);
+        if code != NO_FAULT {
+            return code;
         }
         i += 1;
     }
     NO_FAULT
 }
 
-// The event of an entry that is there, put behind those read before it.
-fn visit_event(s: &mut [u8], t: &[u8], id: u16, i: usize) -> u64
+// The event of an entry that is there, put behind those read before it; or the kind of its fault. `good` says whether the entry's next is
+// no fault.
+fn take_event(s: &mut [u8], t: &[u8], id: u16, good: bool, i: usize) -> u64
     requires { ⌜ (Begun (now s)) × (i < length (now t) / 8) × (i < 65536) ⌝ }
-    ensures { λ r. ⌜ Steps (λ m. visitEvent (now (t .entry)) id i) (now (s .entry)) r (now (s .exit)) ⌝ }
+    ensures { λ r. ⌜ Steps (ByKind (atEvent id i)) (λ m. visitEvent (now (t .entry)) id good i) (now (s .entry)) r (now (s .exit)) ⌝ }
 {
     let e = entries::event_entry(slots::entry_at(t, i));
-    if e.lpi < FIRST_LPI {
-        return Errno::EINVAL;
+    let lpi = e.lpi;
+    if lpi < FIRST_LPI {
+        return codes::LPI; // below
     }
-    if LAST_LPI < e.lpi {
-        return Errno::EINVAL;
+    if LAST_LPI < lpi {
+        return codes::LPI; // above
+    }
+    if !good {
+        return codes::NEXT; // behind the LPI
     }
     if maplayout::collection_count(s) <= rows::find_collection(s, e.icid) {
-        return Errno::EINVAL;
+        return codes::ICID;
     }
     if Guest::MAX_EVENTS <= maplayout::event_count(s) {
-        return Errno::ENOMEM;
+        return codes::EVENT_1025TH;
     }
     let row = Event {
         device: id,
         event: i as u16,
-        lpi: e.lpi as u16,
+        lpi: lpi as u16,
         icid: e.icid as u16,
     };
     maplayout::add_event(s, row);
     NO_FAULT
 }
 
-// The events of an ITT, in rising order. A next that is a fault is met before the other faults of its entry.
+// The same, with the place in the answer.
+fn visit_event(s: &mut [u8], t: &[u8], id: u16, good: bool, i: usize) -> u64
+    requires { ⌜ (Begun (now s)) × (i < length (now t) / 8) × (i < 65536) ⌝ }
+    ensures { λ r. ⌜ Steps ByCode (λ m. visitEvent (now (t .entry)) id good i) (now (s .entry)) r (now (s .exit)) ⌝ }
+{
+    let kind = take_event(s, t, id, good, i);
+    codes::code_at(kind, codes::at_event(id, i))
+}
+
+// The events of an ITT, in rising order.
 fn read_events(s: &mut [u8], t: &[u8], id: u16) -> u64
     requires { ⌜ (Begun (now s)) × (length (now t) / 8 ≤ 65536) ⌝ }
-    ensures { λ r. ⌜ Steps (λ m. readEvents (now (t .entry)) id) (now (s .entry)) r (now (s .exit)) ⌝ }
+    ensures { λ r. ⌜ Steps ByCode (λ m. readEvents (now (t .entry)) id) (now (s .entry)) r (now (s .exit)) ⌝ }
 {
     let n = t.len() / slots::ENTRY;
     let mut at = slots::first_from(false, t, 0);
@@ -119,15 +141,15 @@ fn read_events(s: &mut [u8], t: &[u8], id: u16) -> u64
     loop {
         match slots::follow(false, t, at) {
             Next::Bad => {
-                return Errno::EINVAL;
+                return visit_event(s, t, id, false, at);
             }
             Next::Last => {
-                return visit_event(s, t, id, at);
+                return visit_event(s, t, id, true, at);
             }
             Next::At(j) => {
-                let errno = visit_event(s, t, id, at);
-                if errno != NO_FAULT {
-                    return errno;
+                let code = visit_event(s, t, id, true, at);
+                if code != NO_FAULT {
+                    return code;
                 }
                 at = j;
             }
@@ -135,32 +157,37 @@ fn read_events(s: &mut [u8], t: &[u8], id: u16) -> u64
     }
 }
 
-// The fault of a device that was read, but for its next and its events.
-fn device_fault(s: &[u8], d: Device) -> u64
+// The kind of a device's fault, but for those of its events. `leads` says whether the entry's next is no fault.
+fn device_fault(s: &[u8], d: Device, leads: bool) -> u64
     requires { ⌜ Begun (now s) ⌝ }
-    ensures { λ r. ⌜ r ≡ readFault (decode (now (s .entry))) d (decodeMap (now (s .entry))) ⌝ }
+    ensures { λ r. ⌜ r ≡ readFault leads (decode (now (s .entry))) d (decodeMap (now (s .entry))) ⌝ }
 {
     let n = maplayout::device_count(s);
-    if MAX_BITS < d.bits {
-        return Errno::EINVAL; // size
+    let bits = d.bits;
+    if !leads {
+        return codes::NEXT; // before all others
+    }
+    if MAX_BITS < bits {
+        return codes::SIZE;
     }
     if Guest::MAX_DEVICES <= n {
-        return Errno::ENOMEM; // 33rd
+        return codes::DEVICE_33RD;
     }
     let a = places::itt_area(d);
     if !areas::inside(places::memory_area(layout::load_memory(s)), a) {
-        return Errno::EFAULT; // outside memory
+        return codes::OUTSIDE;
     }
     if places::strikes_tables(s, a) {
-        return Errno::EINVAL; // overlap
+        return codes::OVERLAP;
     }
     NO_FAULT
 }
 
-// The device of an entry that is there, put behind those read before it, and then its events.
-fn visit_device(s: &mut [u8], mem: &[u8], t: &[u8], i: usize) -> u64
+// The device of an entry that is there, put behind those read before it, and then its events. `good` says whether the entry's next is no
+// fault.
+fn visit_device(s: &mut [u8], mem: &[u8], t: &[u8], good: bool, i: usize) -> u64
     requires { ⌜ (Begun (now s)) × (length (now mem) ≡ decode (now s) .memory .length) × (i < length (now t) / 8) × (i < 65536) ⌝ }
-    ensures { λ r. ⌜ Steps (λ m. visitDevice m (now (mem .entry)) (now (t .entry)) i) (now (s .entry)) r (now (s .exit)) ⌝ }
+    ensures { λ r. ⌜ Steps ByCode (λ m. visitDevice m (now (mem .entry)) (now (t .entry)) good i) (now (s .entry)) r (now (s .exit)) ⌝ }
 {
     let e = entries::device_entry(slots::entry_at(t, i));
     let d = Device {
@@ -168,19 +195,19 @@ fn visit_device(s: &mut [u8], mem: &[u8], t: &[u8], i: usize) -> u64
         itt: e.itt,
         bits: e.bits,
     };
-    let errno = device_fault(s, d);
-    if errno != NO_FAULT {
-        return errno;
+    let kind = device_fault(s, d, good);
+    if kind != NO_FAULT {
+        return codes::code_at(kind, codes::at_device(i));
     }
     let itt = places::area_bytes(layout::load_memory(s), places::itt_area(d), mem);
     maplayout::add_device(s, d);
     read_events(s, itt, i as u16)
 }
 
-// The devices of a table with their events, in rising order. A next that is a fault is met before the other faults of its entry.
+// The devices of a table with their events, in rising order.
 fn read_devices(s: &mut [u8], mem: &[u8], t: &[u8]) -> u64
     requires { ⌜ (Begun (now s)) × (length (now mem) ≡ decode (now s) .memory .length) × (length (now t) / 8 ≤ 65536) ⌝ }
-    ensures { λ r. ⌜ Steps (λ m. walk (deviceSlots (now (t .entry))) (visitDevice m (now (mem .entry)) (now (t .entry)))) (now (s .entry)) r (now (s .exit)) ⌝ }
+    ensures { λ r. ⌜ Steps ByCode (λ m. walk (deviceSlots (now (t .entry))) (visitDevice m (now (mem .entry)) (now (t .entry)))) (now (s .entry)) r (now (s .exit)) ⌝ }
 {
     let n = t.len() / slots::ENTRY;
     let mut at = slots::first_from(true, t, 0);
@@ -190,15 +217,15 @@ fn read_devices(s: &mut [u8], mem: &[u8], t: &[u8]) -> u64
     loop {
         match slots::follow(true, t, at) {
             Next::Bad => {
-                return Errno::EINVAL;
+                return visit_device(s, mem, t, false, at);
             }
             Next::Last => {
-                return visit_device(s, mem, t, at);
+                return visit_device(s, mem, t, true, at);
             }
             Next::At(j) => {
-                let errno = visit_device(s, mem, t, at);
-                if errno != NO_FAULT {
-                    return errno;
+                let code = visit_device(s, mem, t, true, at);
+                if code != NO_FAULT {
+                    return code;
                 }
                 at = j;
             }
@@ -206,20 +233,32 @@ fn read_devices(s: &mut [u8], mem: &[u8], t: &[u8]) -> u64
     }
 }
 
-// The mapping that the tables in memory describe, in place of the one in the bytes, or the first fault that is met. Memory is read and
-// never written.
-pub fn restore_tables(s: &mut [u8], mem: &[u8]) -> u64
+// The mapping that the tables in memory describe, in place of the one in the bytes, or the code of the first fault that is met. Memory is
+// read and never written.
+pub fn read_tables(s: &mut [u8], mem: &[u8]) -> u64
     requires { ⌜ Restorable (now s) (length (now mem)) ⌝ }
-    ensures { λ r. ⌜ Restores (now (s .entry)) (restored (decode (now (s .entry))) (now (mem .entry))) r (now (s .exit)) ⌝ }
+    ensures { λ r. ⌜ Reads (now (s .entry)) (restored (decode (now (s .entry))) (now (mem .entry))) r (now (s .exit)) ⌝ }
 {
     let memory = layout::load_memory(s);
     let tables = layout::load_tables(s);
     maplayout::store_empty(s);
     let collections = places::area_bytes(memory, places::table_area(tables.collections), mem);
-    let errno = read_collections(s, collections);
-    if errno != NO_FAULT {
-        return errno;
+    let code = read_collections(s, collections);
+    if code != NO_FAULT {
+        return code;
     }
     let devices = places::area_bytes(memory, places::table_area(tables.devices), mem);
     read_devices(s, mem, devices)
+}
+
+// The same, with the errno that a restore answers in the place of the code.
+pub fn restore_tables(s: &mut [u8], mem: &[u8]) -> u64
+    requires { ⌜ Restorable (now s) (length (now mem)) ⌝ }
+    ensures { λ r. ⌜ Restores (now (s .entry)) (restored (decode (now (s .entry))) (now (mem .entry))) r (now (s .exit)) ⌝ }
+{
+    let code = read_tables(s, mem);
+    if code == NO_FAULT {
+        return NO_FAULT;
+    }
+    codes::number_of(code)
 }

@@ -1,7 +1,7 @@
 -- How large the errno and the number of a question are.
 use Prim.Native.Nat.{ℕ, suc, _<_, _^_}
 use native.Mathlib.Nat.{lt-of-le-of-lt}
-use mathlib.Core.Path.{_≡_}
+use mathlib.Core.Path.{_≡_, refl}
 use mathlib.Core.Bool.{true}
 use mathlib.Core.List.{List, [], _∷_}
 use lib.ListN.{length, getD}
@@ -15,7 +15,7 @@ use Rattle.mapping.specs.Commands.{lookup}
 use Rattle.maplayout.specs.MapLayout.{decodeMap, mapCountsOk}
 use Rattle.mapkept.proofs.Answers.{lookup-listed}
 use Rattle.mapkept.proofs.Words.{lookup-small}
-use Rattle.calls.specs.Commands.{ready, lookupStep}
+use Rattle.calls.specs.Commands.{ready, lookupStep, memoryFault}
 use Rattle.layout.proofs.Typed.{decode-words}
 use Rattle.kept.specs.Good.{Good}
 use Rattle.kept.proofs.Choice.{chosen, choose-by, and-left, and-right}
@@ -25,8 +25,9 @@ use Rattle.calls.specs.declared.Question.{Question}
 use Rattle.calls.specs.declared.Question.the-variants.{RedistBase, Pending}
 use Rattle.calls.specs.Steps.{askStep}
 use Rattle.state.specs.Sound.{sound}
-use Rattle.calls.specs.Call.{asks, looks}
+use Rattle.calls.specs.Call.{asks, looks, explains}
 use Rattle.calls.proofs.Answers.{ask-known}
+use Rattle.calls.proofs.Saving.{memory-small}
 
 pub bytes-from : (l : List ℕ) → ((k : ℕ) → getD l k 0 < 256) → Bytes l
 bytes-from [] h = none
@@ -86,3 +87,16 @@ look-number device event s =
   where
     Fits : Reading → Type 0
     Fits r = r .number < 2 ^ 63
+
+-- what a restore would meet
+pub explain-small : (s mem : List ℕ) → explains s mem .errno < 4096
+unfolding explains
+explain-small s mem =
+    chosen Small (eqb (length s) size)
+    (chosen Small (sound s)
+    (chosen Small (eqb (memoryFault (length mem) (decode s)) 0) (lit< tt) (memory-small (length mem) (decode s) refl))
+    (lit< tt))
+    (lit< tt)
+  where
+    Small : Reading → Type 0
+    Small r = r .errno < 4096

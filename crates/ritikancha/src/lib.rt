@@ -4,7 +4,7 @@ use calls::Change;
 use calls::Command;
 use calls::Question;
 ghost use mathlib.Core.List.{[]};
-ghost use Rattle.step.specs.Step.{step, Leaves, stateLen, setup, vcpuAdd, vcpusStart, vcpusStop, vgicSet, itsSet, vgicGet, itsGet, redistBase, irqPending, irqSetPending, irqClearPending, irqActivate, irqLine, irqTrigger, itsPlace, itsMapDevice, itsUnmapDevice, itsMapCollection, itsUnmapCollection, itsMapEvent, itsDiscard, itsMove, itsLookup, itsSave, itsRestore};
+ghost use Rattle.step.specs.Step.{step, Leaves, stateLen, setup, vcpuAdd, vcpusStart, vcpusStop, vgicSet, itsSet, vgicGet, itsGet, redistBase, irqPending, irqSetPending, irqClearPending, irqActivate, irqLine, irqTrigger, itsPlace, itsMapDevice, itsUnmapDevice, itsMapCollection, itsUnmapCollection, itsMapEvent, itsDiscard, itsMove, itsLookup, itsSave, itsRestore, itsExplain};
 
 // §1.2: the length of a guest's state in bytes.
 #[no_mangle]
@@ -235,4 +235,12 @@ pub extern "C" fn rk_its_restore(state: &mut [u8], memory: &[u8]) -> i64
     ensures { λ r. ⌜ Leaves (step itsRestore (now (state .entry)) (now (memory .entry))) r (now (state .exit)) (now (memory .exit)) ⌝ }
 {
     calls::restore(state, memory)
+}
+
+// §13.1: names the first fault of the tables in the lent memory, or says that they describe a mapping.
+#[no_mangle]
+pub extern "C" fn rk_its_explain(state: &[u8], memory: &[u8]) -> i64
+    ensures { λ r. ⌜ Leaves (step itsExplain (now (state .entry)) (now (memory .entry))) r (now (state .exit)) (now (memory .exit)) ⌝ }
+{
+    calls::tell(calls::explain(state, memory))
 }

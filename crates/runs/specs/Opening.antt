@@ -2,7 +2,7 @@
 use mathlib.Core.List.{List, [], _∷_}
 use lib.IntN.{ℤ}
 use Rattle.answers.specs.Answer.{refusal, done}
-use Rattle.step.specs.Step.{stateLen, vcpusStart, vcpusStop, setup, vcpuAdd, redistBase, vgicSet, itsSet, vgicGet, itsGet, irqPending, irqSetPending, irqClearPending, irqActivate, irqLine, irqTrigger, itsPlace, itsMapEvent, itsMapDevice, itsMove, itsMapCollection, itsDiscard, itsLookup, itsUnmapDevice, itsUnmapCollection, itsSave, itsRestore}
+use Rattle.step.specs.Step.{stateLen, vcpusStart, vcpusStop, setup, vcpuAdd, redistBase, vgicSet, itsSet, vgicGet, itsGet, irqPending, irqSetPending, irqClearPending, irqActivate, irqLine, irqTrigger, itsPlace, itsMapEvent, itsMapDevice, itsMove, itsMapCollection, itsDiscard, itsLookup, itsUnmapDevice, itsUnmapCollection, itsSave, itsRestore, itsExplain}
 use Rattle.step.specs.Run.{Row, _⇒_, with, writes, word, long, zeros}
 
 -- §1.3: every call but set-up, RESET too, with names, widths and numbers that are refused in other ways further on
@@ -34,6 +34,7 @@ every n =
     ∷ itsLookup 0 0 ⇒ n
     ∷ with itsSave (zeros 3) n
     ∷ with itsRestore (zeros 3) n
+    ∷ with itsExplain (zeros 3) n
     ∷ []
 
 -- §1.2, §1.3, §1.4: a state of a wrong length, -14: set-up too, before it looks at its numbers; the length itself can always be asked

@@ -1,7 +1,7 @@
 -- Part 2, and the order of §2.5: unknown names, then widths, then what is not ready, then running, then the rest.
 use mathlib.Core.List.{List, [], _∷_, _++_}
 use Rattle.answers.specs.Answer.{refusal, done}
-use Rattle.step.specs.Step.{vcpusStart, vcpusStop, setup, vcpuAdd, redistBase, vgicSet, itsSet, vgicGet, itsGet, irqPending, irqSetPending, irqClearPending, irqActivate, irqLine, irqTrigger, itsPlace, itsMapEvent, itsMapDevice, itsMove, itsMapCollection, itsDiscard, itsLookup, itsUnmapDevice, itsUnmapCollection, itsSave, itsRestore}
+use Rattle.step.specs.Step.{vcpusStart, vcpusStop, setup, vcpuAdd, redistBase, vgicSet, itsSet, vgicGet, itsGet, irqPending, irqSetPending, irqClearPending, irqActivate, irqLine, irqTrigger, itsPlace, itsMapEvent, itsMapDevice, itsMove, itsMapCollection, itsDiscard, itsLookup, itsUnmapDevice, itsUnmapCollection, itsSave, itsRestore, itsExplain}
 use Rattle.step.specs.Run.{Row, _⇒_, with, writes, word, long, zeros}
 
 -- §2.6, §2.7: unknown groups, attributes and offsets, with values of 3 bytes, which no attribute has (§2.5)
@@ -66,9 +66,10 @@ widths =
     ∷ itsSet 4 1 ⇒ refusal 14
     ∷ itsSet 4 2 ⇒ refusal 14
     ∷ with (itsSet 4 4) (zeros 1) (refusal 14)
-    -- §7.1, §9.1: memory of another length
+    -- §7.1, §9.1, §13.2: memory of another length
     ∷ with itsSave (zeros 0x1fff) (refusal 14)
     ∷ with itsRestore (zeros 0x2001) (refusal 14)
+    ∷ with itsExplain (zeros 0x2001) (refusal 14)
     ∷ []
 
 -- §2.5: not ready, with VCPUs, INTIDs, affinities and tables that would be faults further on
@@ -96,7 +97,7 @@ notReady =
     -- §5.2, §5.14: ITS INIT and RESET
     ∷ itsSet 4 0 ⇒ refusal 6
     ∷ itsSet 4 4 ⇒ refusal 6
-    -- §5.3: placing, the commands, lookup, save and restore
+    -- §5.3, §13.2: placing, the commands, lookup, save, restore and explain
     ∷ itsPlace 1 0 1 0 ⇒ refusal 6
     ∷ itsMapDevice 0 1 0 ⇒ refusal 6
     ∷ itsUnmapDevice 0 ⇒ refusal 6
@@ -108,6 +109,7 @@ notReady =
     ∷ itsLookup 0 0 ⇒ refusal 6
     ∷ with itsSave (zeros 0x2000) (refusal 6)
     ∷ with itsRestore (zeros 0x2000) (refusal 6)
+    ∷ with itsExplain (zeros 0x2000) (refusal 6)
     ∷ []
 
 -- §2.5: a guest that runs: what is -16 then, and what goes on
@@ -142,17 +144,20 @@ running =
     ∷ itsSet 4 0 ⇒ done 0
     ∷ with (itsSet 4 4) (zeros 1) (refusal 14)
     ∷ itsSet 4 4 ⇒ refusal 16
-    -- §7.1, §9.1: save and restore: not ready, as no table is placed (§5.3)
+    -- §7.1, §9.1, §13.2: save, restore and explain: not ready, as no table is placed (§5.3)
     ∷ with itsSave (zeros 0x2000) (refusal 6)
     ∷ with itsRestore (zeros 0x2000) (refusal 6)
+    ∷ with itsExplain (zeros 0x2000) (refusal 6)
     -- §5.3: placing and commands go on
     ∷ itsPlace 0x40000000 1 0x40001000 1 ⇒ done 0
     ∷ itsMapCollection 7 0 ⇒ done 0
-    -- §7.1, §9.1: save and restore: the length of memory, then running
+    -- §7.1, §9.1, §13.2: save, restore and explain: the length of memory, then running
     ∷ with itsSave (zeros 0x1000) (refusal 14)
     ∷ with itsSave (zeros 0x2000) (refusal 16)
     ∷ with itsRestore (zeros 0x1000) (refusal 14)
+    ∷ with itsExplain (zeros 0x1000) (refusal 14)
     ∷ with itsRestore (zeros 0x2000) (refusal 16)
+    ∷ with itsExplain (zeros 0x2000) (refusal 16)
     -- §3.2: stop, and stop again; then a get of group 1, whose STATUSR is 0 as at set-up (§1.5), and RESET (§5.14) are done
     ∷ vcpusStop ⇒ done 0
     ∷ vcpusStop ⇒ done 0

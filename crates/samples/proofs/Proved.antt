@@ -1,11 +1,12 @@
 -- The samples of part 12, proved. Assumes nothing.
 use Prim.Native.Nat.{ℕ, zero, suc, _+_, _-_, _*_, _/_, _^_, _<_}
 use native.Mathlib.Omega.{arith}
-use mathlib.Core.Path.{_≡_, refl}
-use mathlib.Core.Bool.{Bool, true, false}
+use mathlib.Core.Path.{_≡_, refl, _∙_}
+use mathlib.Core.Bool.{Bool, true, false, _||_}
+use mathlib.Core.Logic.{_⊎_, inl, inr, ⊎-elim}
 use mathlib.Core.List.{List, [], _∷_}
 use lib.ListN.{length, take, drop, replicate}
-use lib.Dec.{eqb}
+use lib.Dec.{eqb, ltb}
 use borrow.Author.Tests.{lt-ltb, le-ltb, lt-leb}
 use Rattle.lists.specs.Rows.{choose}
 use Rattle.lists.proofs.All.{none, more, all-take, all-drop}
@@ -24,9 +25,10 @@ use Rattle.mapping.specs.Mapped.{Mapped, empty}
 use Rattle.chains.specs.declared.Next.the-variants.{Bad}
 use Rattle.chains.specs.Slots.{Slots, Blank, scan, firstFrom, following, path}
 use Rattle.chains.proofs.Scan.{found-at, found-none}
-use Rattle.tables.specs.Bytes.{entryAt, areaBytes, deviceTable, collectionTable, deviceSlots, eventSlots}
+use Rattle.tables.specs.Fault.{atDevice, atEvent, faultNext, faultLpi, at}
+use Rattle.tables.specs.Bytes.{entryAt, eventAt, areaBytes, deviceTable, collectionTable, deviceSlots, eventSlots}
 use Rattle.tables.specs.Saved.{nextOf, chainWord}
-use Rattle.tables.specs.Restored.{Out, fault, found, run, walk, readCollections, readEvents, readDevices, restored}
+use Rattle.tables.specs.Restored.{Out, fault, found, run, walk, readCollections, visitEvent, readEvents, visitDevice, readDevices, restored}
 use Rattle.samples.specs.Samples.{Samples, regions, landing, leaving, Zeros}
 
 same : (b : Bool) {x : ℕ} → choose b x x ≡ x
@@ -41,13 +43,13 @@ asked m r s i v = rw (i, lt-ltb 2 (length (m .vcpus)) v, s, r)
 
 -- ---- §12.8 and §12.9: a walk whose first entry has a bad next
 
-module _ (T : Slots) (visit : ℕ → Mapped → Out) (k : Mapped) (i : ℕ) (inside : i < T .size) (below : Blank T 0 i) (valid : T .valid i ≡ true) (bad : following T i ≡ Bad) where
-  run-bad : (n : ℕ) → i < n → run visit (path T n i) k ≡ fault 22
+module _ (T : Slots) (visit : Bool → ℕ → Mapped → Out) (k : Mapped) (i : ℕ) (inside : i < T .size) (below : Blank T 0 i) (valid : T .valid i ≡ true) (bad : following T i ≡ Bad) where
+  run-bad : (n : ℕ) → i < n → run visit (path T n i) k ≡ visit false i k
   unfolding run path
   run-bad zero h = absurd (omega arith)
   run-bad (suc n) h = rw bad
 
-  walk-bad : walk T visit k ≡ fault 22
+  walk-bad : walk T visit k ≡ visit false i k
   unfolding walk
   walk-bad = rw (found-at T 0 i (omega arith) inside below valid, lt-ltb i (T .size) inside) (run-bad (T .size) inside)
 
@@ -55,20 +57,33 @@ module _ (m : Machine) (mem : List ℕ) (k : Mapped) (d : ℕ) where
   lost : let t = deviceTable m mem in
     Blank (deviceSlots t) 0 d → d + 16382 < length t / 8
     → isDevice (entryAt t d) ≡ true → deviceOf (entryAt t d) .next ≡ 16382 → isDevice (entryAt t (d + 16382)) ≡ false
-    → (following (deviceSlots t) d ≡ Bad) × (readDevices m mem k ≡ fault 22)
-  unfolding deviceSlots following readDevices
+    → (following (deviceSlots t) d ≡ Bad) × (readDevices m mem k ≡ fault (at (atDevice d) faultNext))
+  unfolding deviceSlots following readDevices visitDevice
   lost below inside valid next blank =
       let bad : following (deviceSlots (deviceTable m mem)) d ≡ Bad = rw (next, lt-leb (length (deviceTable m mem) / 8) (d + 16382) inside, blank) in
       (bad, walk-bad (deviceSlots (deviceTable m mem)) _ k d (omega arith) below valid bad)
 
+-- an event with a bad next, by its LPI
+first : (t : List ℕ) (id : ℕ) (k : Mapped)
+    → (visitEvent t id false 5 k ≡ fault (at (atEvent id 5) faultLpi)) ⊎ (visitEvent t id false 5 k ≡ fault (at (atEvent id 5) faultNext))
+unfolding visitEvent
+first t id k = by (ltb (eventAt t id 5 .lpi) 8192 || ltb 65535 (eventAt t id 5 .lpi))
+  where
+    by : (b : Bool) → let lpi = fault (at (atEvent id 5) faultLpi) in let next = fault (at (atEvent id 5) faultNext) in
+        (choose b lpi next ≡ lpi) ⊎ (choose b lpi next ≡ next)
+    by true = inl refl
+    by false = inr refl
+
 out : (t : List ℕ) (id : ℕ) (k : Mapped) → length t ≡ 8 * 2 ^ 3 → Blank (eventSlots t) 0 5
   → isEvent (entryAt t 5) ≡ true → eventOf (entryAt t 5) .next ≡ 3
-  → (following (eventSlots t) 5 ≡ Bad) × (readEvents t id k ≡ fault 22)
+  → (following (eventSlots t) 5 ≡ Bad) ×
+  ((readEvents t id k ≡ fault (at (atEvent id 5) faultLpi)) ⊎ (readEvents t id k ≡ fault (at (atEvent id 5) faultNext)))
 unfolding eventSlots following readEvents
 out t id k size below valid next =
     let bad : following (eventSlots t) 5 ≡ Bad = rw (next, size) in
     let inside : 5 < length t / 8 = rw size (omega arith) in
-    (bad, walk-bad (eventSlots t) _ k 5 inside below valid bad)
+    let e = walk-bad (eventSlots t) (visitEvent t id) k 5 inside below valid bad in
+    (bad, ⊎-elim (λ f. inl (e ∙ f)) (λ f. inr (e ∙ f)) (first t id k))
 
 -- ---- §12.10
 
@@ -130,7 +145,7 @@ none-counted w m c =
 
 -- all twelve
 pub proved : Samples
-unfolding getField putField wordRegion bytesOf isDevice deviceOf deviceWord isCollection collectionOf collectionWord isEvent eventOf eventWord locate nextOf chainWord scan firstFrom following path le leAt entryAt deviceSlots eventSlots run walk readEvents landing leaving
+unfolding getField putField wordRegion bytesOf isDevice deviceOf deviceWord isCollection collectionOf collectionWord isEvent eventOf eventWord locate nextOf chainWord scan firstFrom following path le leAt entryAt deviceSlots eventSlots run walk visitEvent readEvents visitDevice landing leaving
 proved = record {
   p1 = (refl, refl, refl);
   p2 = (refl, refl, refl, refl);
@@ -139,8 +154,8 @@ proved = record {
   p5 = (refl, asked);
   p6 = (refl, refl);
   p7 = (refl, refl);
-  p8 = (λ m mem k. refl, lost);
-  p9 = (λ id k. refl, out);
+  p8 = (refl, λ m mem k. refl, lost);
+  p9 = (refl, refl, λ id k. refl, out);
   p10 = (nothing, nothing-at-all);
   p11 = (refl, uneven);
   p12 = (refl, none-counted);

@@ -2,6 +2,7 @@
 use Prim.Native.Nat.{ℕ, _+_, _*_, _/_, _^_, _<_}
 use mathlib.Core.Path.{_≡_}
 use mathlib.Core.Bool.{true, false}
+use mathlib.Core.Logic.{_⊎_}
 use mathlib.Core.List.{List, [], _∷_, _++_}
 use lib.ListN.{length, replicate}
 use Rattle.lists.proofs.All.{All}
@@ -22,6 +23,7 @@ use Rattle.chains.specs.declared.Next.the-variants.{At, Bad}
 use Rattle.chains.specs.Slots.{Slots, Blank, following}
 use Rattle.tables.specs.Bytes.{entryAt, deviceTable, collectionTable, deviceCap, deviceSlots, eventSlots}
 use Rattle.tables.specs.Saved.{nextOf, savedDevice}
+use Rattle.tables.specs.Fault.{atDevice, atEvent, faultNext, faultLpi, at, kindErrno}
 use Rattle.tables.specs.Restored.{fault, found, walk, visitDevice, readEvents, readDevices, restored}
 
 -- §12.1: the region word
@@ -89,19 +91,24 @@ pub record Samples : Type 0 where
   pub p6 : (nextOf deviceKey deviceCap (device 0) (device 16383 ∷ []) ≡ 16383) × (following (saved (pair 16383)) 0 ≡ At 16383)
   -- §12.7: the same, past a landing at the cap
   pub p7 : (nextOf deviceKey deviceCap (device 0) (device 20000 ∷ []) ≡ 16383) × (following (saved (pair 20000)) 0 ≡ At 20000)
-  -- §12.8: computed for one table, and said of the first device d of any device table
+  -- §12.8: computed for one table, and said of the first device d of any device table: the fault is next, for which a restore answers -22
+  -- (§13.4)
   pub p8 :
-    ((m : Machine) (mem : List ℕ) (k : Mapped) → walk (deviceSlots landing) (visitDevice m mem landing) k ≡ fault 22)
+    (kindErrno faultNext ≡ 22)
+    × ((m : Machine) (mem : List ℕ) (k : Mapped) → walk (deviceSlots landing) (visitDevice m mem landing) k ≡ fault (at (atDevice 0) faultNext))
     × ((m : Machine) (mem : List ℕ) (k : Mapped) (d : ℕ) → let t = deviceTable m mem in
     Blank (deviceSlots t) 0 d → d + 16382 < length t / 8
     → isDevice (entryAt t d) ≡ true → deviceOf (entryAt t d) .next ≡ 16382 → isDevice (entryAt t (d + 16382)) ≡ false
-    → (following (deviceSlots t) d ≡ Bad) × (readDevices m mem k ≡ fault 22))
-  -- §12.9: computed for one ITT, and said of any ITT of 8 entries whose first event is 5
+    → (following (deviceSlots t) d ≡ Bad) × (readDevices m mem k ≡ fault (at (atDevice d) faultNext)))
+  -- §12.9: computed for one ITT, and said of any ITT of 8 entries whose first event is 5: the fault is next or, before it, the LPI (§9.7),
+  -- and for both a restore answers -22
   pub p9 :
-    ((id : ℕ) (k : Mapped) → readEvents leaving id k ≡ fault 22)
+    (kindErrno faultLpi ≡ 22) × (kindErrno faultNext ≡ 22)
+    × ((id : ℕ) (k : Mapped) → readEvents leaving id k ≡ fault (at (atEvent id 5) faultNext))
     × ((t : List ℕ) (id : ℕ) (k : Mapped) → length t ≡ 8 * 2 ^ 3 → Blank (eventSlots t) 0 5
     → isEvent (entryAt t 5) ≡ true → eventOf (entryAt t 5) .next ≡ 3
-    → (following (eventSlots t) 5 ≡ Bad) × (readEvents t id k ≡ fault 22))
+    → (following (eventSlots t) 5 ≡ Bad) ×
+    ((readEvents t id k ≡ fault (at (atEvent id 5) faultLpi)) ⊎ (readEvents t id k ≡ fault (at (atEvent id 5) faultNext))))
   -- §12.10: what a restore reads of them, for any guest and memory (§10.6: that is what is described); so too of a memory of zeros, which
   -- is no fault (§9.8)
   pub p10 :

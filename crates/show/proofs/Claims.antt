@@ -1,29 +1,24 @@
 -- What §11.1 and §11.2 say beyond the lines themselves. Assumes nothing.
-use Prim.Native.Nat.{ℕ, _≤_, _<_}
-use native.Mathlib.Omega.{arith}
-use mathlib.Core.Path.{_≡_, refl, sym, _∙_}
+use Prim.Native.Nat.{ℕ, _≤_}
+use mathlib.Core.Path.{_≡_, refl}
 use mathlib.Core.Bool.{true}
 use mathlib.Core.List.{List}
 use lib.ListN.{length, take}
-use lib.Seq.{length-take-le}
 use lib.Dec.{leb}
-use borrow.Author.Tests.{le-leb, lt-leb}
 use Rattle.areas.proofs.Tests.{and-left, and-right}
 use Rattle.mapping.specs.Mapped.{Mapped, rising, collectionKey, deviceKey, eventKey}
 use Rattle.mapping.specs.MapRules.{mappingOk}
 use Rattle.tables.specs.Restored.{found, restored}
 use Rattle.described.proofs.Exact.{accepted-described}
-use Rattle.show.specs.Shown.{isImage, guestOf, refusal, shown}
-use Rattle.show.proofs.Ready.{ready, image-says}
+use Rattle.image.specs.Image.{isImage, guestOf}
+use Rattle.image.proofs.Ready.{ready, image-says}
+use Rattle.image.proofs.Text.{cut}
+use Rattle.show.specs.Shown.{refusal, shown}
 use Rattle.show.proofs.Whole.{shown-no-image}
 
--- §11.1: an image above 65,536 bytes is refused, so that no byte after the 65,537th matters
-shown-long : (image : List ℕ) → 65536 < length image → shown image ≡ refusal 14
-unfolding isImage
-shown-long image h = sym (shown-no-image image (rw (le-leb 8192 (length image) (omega arith), lt-leb (length image) 65536 h)))
-
+-- §11.1: no byte after the 65,537th matters
 pub shown-cut : (image : List ℕ) → 65537 ≤ length image → shown (take 65537 image) ≡ shown image
-shown-cut image h = shown-long (take 65537 image) (omega (arith, length-take-le 65537 image h)) ∙ sym (shown-long image h)
+shown-cut = cut shown (refusal 14) shown-no-image
 
 -- §11.2: rows rise
 module _ (image : List ℕ) (e : isImage (length image) ≡ true) (k : Mapped) (r : restored (guestOf (length image)) image ≡ found k) where

@@ -1,57 +1,30 @@
--- The guest of an image in a state's bytes: a restore may be asked of them, and the mapping that it reads can be loaded again. Assumes
--- nothing.
-use Prim.Native.Nat.{ℕ}
+-- The mapping that a restore without a fault leaves in a state's bytes can be loaded again. Assumes nothing.
+use Prim.Native.Nat.{ℕ, _<_}
 use native.Mathlib.Omega.{arith}
-use mathlib.Core.Path.{_≡_, refl, sym, ap, _∙_}
-use mathlib.Core.Bool.{true}
+use mathlib.Core.Path.{_≡_, refl, ap, _∙_}
+use mathlib.Core.Logic.{inl, inr}
 use mathlib.Core.List.{List}
 use lib.ListN.{length}
 use borrow.Author.Tests.{le-leb}
 use Rattle.lists.proofs.All.{to-all}
-use Rattle.words.specs.Words.{leAt}
-use Rattle.guest.specs.Machine.{Machine}
-use Rattle.rules.specs.Rules.{rules}
-use Rattle.layout.specs.Layout as layout
-use Rattle.layout.specs.Layout.{decode, stored, countsOk, controlOf}
-use Rattle.layout.proofs.Round.{length-stored, decode-stored}
-use Rattle.layout.proofs.InPlace.{region-count, vcpu-count}
+use Rattle.layout.specs.Layout.{decode}
 use Rattle.mapping.specs.Mapped.{Mapped}
-use Rattle.mapping.specs.MapRules.{isPlaced}
 use Rattle.mapkept.proofs.Edits.{all-weaker}
 use Rattle.mapkept.proofs.Placing.{sound}
 use Rattle.mapkept.proofs.Words.{mapping-words}
+use Rattle.tables.specs.Fault.{kindErrno}
 use Rattle.tables.specs.Restored.{Out, fault, found, restored}
 use Rattle.described.proofs.Exact.{restored-ok}
+use Rattle.described.proofs.Faults.{Known, number-known}
 use Rattle.restore.specs.Begun.{Over}
 use Rattle.restore.specs.Parts.{fewBits}
 use Rattle.restore.specs.Restores.{errnoOf, Restorable, Restores}
-use Rattle.show.specs.Shown.{isImage, guestOf}
-use Rattle.show.proofs.Ready.{image-says, ready, guest-room, guest-words}
 
--- bytes in which the guest of an image was stored
-module _ (size : ℕ) (e : isImage size ≡ true) (s : List ℕ) (h : length s ≡ layout.size) (t : List ℕ) (q : t ≡ stored (guestOf size) s) where
-  pub holds : decode t ≡ guestOf size
-  unfolding guestOf
-  holds = ap decode q ∙ decode-stored (guestOf size) s h (guest-room size) (guest-words size (image-says size e)) refl
+errno-positive : (e : ℕ) → Known e → 0 < e
+errno-positive e (inl x) = omega arith
+errno-positive e (inr (inl x)) = omega arith
+errno-positive e (inr (inr x)) = omega arith
 
-  counts : countsOk t ≡ true
-  unfolding countsOk decode controlOf guestOf
-  counts =
-      let r : leAt t 168 8 ≡ 0 = region-count t ∙ ap (λ (m : Machine). length (m .regions)) holds in
-      let v : leAt t 176 8 ≡ 4 = vcpu-count t ∙ ap (λ (m : Machine). length (m .vcpus)) holds in
-      let i : leAt t 40 8 ≡ 256 = ap (λ (m : Machine). m .control .irqs) holds in
-      rw (r, v, i)
-
-  pub restorable : Restorable t size
-  unfolding guestOf
-  restorable = record {
-    counted = record { long = ap length q ∙ length-stored (guestOf size) s h (guest-room size); counts = counts };
-    rules = ap rules holds ∙ ready size (image-says size e);
-    placed = ap isPlaced holds;
-    memory = sym (ap (λ (m : Machine). m .memory .length) holds);
-  }
-
--- what a restore that meets no fault leaves
 module _ (t mem : List ℕ) (a : Restorable t (length mem)) (r : ℕ) (left : List ℕ) (d : Restores t (restored (decode t) mem) r left) where
   read-over : (k : Mapped) → restored (decode t) mem ≡ found k → Over t k left
   read-over k x =
@@ -70,5 +43,5 @@ module _ (t mem : List ℕ) (a : Restorable t (length mem)) (r : ℕ) (left : Li
   left-over z = by (restored (decode t) mem) refl
     where
       by : (o : Out) → restored (decode t) mem ≡ o → (k : Mapped) × (restored (decode t) mem ≡ found k) × Over t k left
-      by (fault n) x = let c = d .errno ∙ ap errnoOf x in let k = d .named n x in absurd (omega arith)
+      by (fault f) x = absurd (omega (arith, errno-positive (kindErrno (f .kind)) (number-known (f .kind)), d .is ∙ ap errnoOf x, z))
       by (found k) x = (k, x, read-over k x)

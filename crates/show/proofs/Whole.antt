@@ -1,6 +1,5 @@
--- What is put at the start of a buffer is the text for the image. Assumes nothing.
-use Prim.Native.Nat.{ℕ, _≤_}
-use native.Mathlib.Omega.{arith}
+-- What a restore of an image's guest answers and leaves gives the text for the image. Assumes nothing.
+use Prim.Native.Nat.{ℕ}
 use mathlib.Core.Path.{_≡_, refl, ap, _∙_}
 use mathlib.Core.Bool.{true, false}
 use mathlib.Core.List.{List}
@@ -12,11 +11,11 @@ use Rattle.maplayout.specs.MapLayout.{decodeMap, mapCountsOk}
 use Rattle.tables.specs.Restored.{Out, fault, found, restored}
 use Rattle.restore.specs.Restores.{errnoOf, Restores}
 use Rattle.restore.proofs.Over.{counted as over-counted, same-rows}
-use Rattle.lines.specs.Text.{Adds}
-use Rattle.listing.specs.Listing.{listing, listingRoom}
-use Rattle.show.specs.Shown.{isImage, guestOf, refusal, answered, shown, Shows}
-use Rattle.show.proofs.Reading.{counted}
-use Rattle.show.proofs.Stored.{holds, restorable, left-over}
+use Rattle.listing.specs.Listing.{listing}
+use Rattle.image.specs.Image.{isImage, guestOf}
+use Rattle.image.proofs.Stored.{holds, restorable}
+use Rattle.show.specs.Shown.{refusal, answered, shown}
+use Rattle.show.proofs.Stored.{left-over}
 
 -- what the code of a restore answered and left, of bytes in which the image's guest was stored
 module _ (image : List ℕ) (e : isImage (length image) ≡ true) (s : List ℕ) (h : length s ≡ layout.size)
@@ -29,8 +28,8 @@ module _ (image : List ℕ) (e : isImage (length image) ≡ true) (s : List ℕ)
   shown-fault n = by (restored (decode t) image) refl
     where
       by : (o : Out) → restored (decode t) image ≡ o → refusal r ≡ shown image
-      by (fault m) x = ap refusal (d .errno ∙ ap errnoOf x) ∙ shown-as (fault m) x
-      by (found k) x = absurd (n (d .errno ∙ ap errnoOf x))
+      by (fault f) x = ap refusal (d .is ∙ ap errnoOf x) ∙ shown-as (fault f) x
+      by (found k) x = absurd (n (d .is ∙ ap errnoOf x))
 
   module _ (z : r ≡ 0) where
     pub loadable : (length left ≡ layout.size) × (mapCountsOk left ≡ true)
@@ -44,10 +43,3 @@ module _ (image : List ℕ) (e : isImage (length image) ≡ true) (s : List ℕ)
 pub shown-no-image : (image : List ℕ) → isImage (length image) ≡ false → refusal 14 ≡ shown image
 unfolding shown
 shown-no-image image e = rw e
-
-pub shows : (image : List ℕ) {before text after : List ℕ} {r : ℕ} → listingRoom ≤ length before → length after ≡ length before → text ≡ shown image
-    → Adds before 0 text listingRoom after r → Shows image after r
-shows image {after = after} {r = r} enough same e a =
-    let m = a .most in
-    let f : r ≤ length after = omega arith in
-    record { is = a .is ∙ e; counts = counted r after f }

@@ -2,7 +2,7 @@
 use Prim.Native.Nat.{ℕ}
 use Rattle.areas.specs.Area.{overlaps, endsBy, inside, struck, strikes, apart}
 use Rattle.banks.specs.Bank.{pending, raised, lowered, lined}
-use Rattle.calls.specs.Call.{changes, asks, valueOf, setUp, commands, looks, saves, restores}
+use Rattle.calls.specs.Call.{changes, asks, valueOf, setUp, commands, looks, saves, restores, explains}
 use Rattle.calls.specs.Commands.{onMapping, place, reset, lookupStep, memoryFault}
 use Rattle.calls.specs.Groups.{setGroup4, vgicSet, vgicGet, setItsGroup4, itsSet, itsGet}
 use Rattle.state.specs.Sound.{sound}
@@ -32,5 +32,5 @@ use Rattle.words.specs.Words.{le, bytesOf, leAt, putAt, rowsOf, bytesAll}
 use Rattle.maplayout.specs.MapLayout.{deviceOf as deviceRow, collectionOf as collectionRow, eventOf as eventRow}
 
 unfoldable pub computed : ℕ
-unfolding overlaps endsBy inside struck strikes apart pending raised lowered lined changes asks valueOf setUp commands looks saves restores onMapping place reset lookupStep memoryFault setGroup4 vgicSet vgicGet setItsGroup4 itsSet itsGet sound scan firstFrom following path isCollection collectionOf collectionWord isDevice deviceOf deviceWord isEvent eventOf eventWord getField putField areaFault frameFault setDistributor singleFault setSingle setItsBase wordRegion regionWord regionFault addRegion setGroup0 getSingle getRegion getGroup0 setItsGroup0 getItsGroup0 hasPlaces vgicInit locate redistBase addVcpu setRunning setIrqs getIrqs itsInit irqFault irqPending irqSet irqClear irqLine irqTrigger distributorRegister redistributorRegister accessFault setGroup1 getGroup1 group5Fault setGroup5 getGroup5 group7Fault levelSpot setGroup7 getGroup7 sharedSpot spotOf memoryOf controlOf framesOf tablesOf regionOf regionBytes vcpuOf vcpuBytes bankOf bankBytes decode headBytes stored countsOk findIx all deviceBytes collectionBytes eventBytes decodeMap countBytes storedMap mapCountsOk tableAreas deviceFault mapDevice unmapDevice mapCollection unmapCollection eventFault mapEvent discard move lookup wellFormed placeFault deviceOk collectionOk eventOk mappingOk mapRules insertedAt removedAt kept rising memoryOk irqsOk controlOk frameOk regionOk framesOk initOk taken distinct vcpuOk vcpusOk tableOk tablesOk itsOk rules standing others total entryAt areaBytes deviceSlots eventSlots run walk visitCollection readCollections visitEvent readEvents visitDevice readDevices restored nextOf chainWord savedCollection tableOf savedItts savedMemory le bytesOf leAt putAt rowsOf bytesAll deviceRow collectionRow eventRow
+unfolding overlaps endsBy inside struck strikes apart pending raised lowered lined changes asks valueOf setUp commands looks saves restores explains onMapping place reset lookupStep memoryFault setGroup4 vgicSet vgicGet setItsGroup4 itsSet itsGet sound scan firstFrom following path isCollection collectionOf collectionWord isDevice deviceOf deviceWord isEvent eventOf eventWord getField putField areaFault frameFault setDistributor singleFault setSingle setItsBase wordRegion regionWord regionFault addRegion setGroup0 getSingle getRegion getGroup0 setItsGroup0 getItsGroup0 hasPlaces vgicInit locate redistBase addVcpu setRunning setIrqs getIrqs itsInit irqFault irqPending irqSet irqClear irqLine irqTrigger distributorRegister redistributorRegister accessFault setGroup1 getGroup1 group5Fault setGroup5 getGroup5 group7Fault levelSpot setGroup7 getGroup7 sharedSpot spotOf memoryOf controlOf framesOf tablesOf regionOf regionBytes vcpuOf vcpuBytes bankOf bankBytes decode headBytes stored countsOk findIx all deviceBytes collectionBytes eventBytes decodeMap countBytes storedMap mapCountsOk tableAreas deviceFault mapDevice unmapDevice mapCollection unmapCollection eventFault mapEvent discard move lookup wellFormed placeFault deviceOk collectionOk eventOk mappingOk mapRules insertedAt removedAt kept rising memoryOk irqsOk controlOk frameOk regionOk framesOk initOk taken distinct vcpuOk vcpusOk tableOk tablesOk itsOk rules standing others total entryAt areaBytes deviceSlots eventSlots run walk visitCollection readCollections visitEvent readEvents visitDevice readDevices restored nextOf chainWord savedCollection tableOf savedItts savedMemory le bytesOf leAt putAt rowsOf bytesAll deviceRow collectionRow eventRow
 computed = 0

@@ -1,7 +1,7 @@
 -- Each call does its own work on its own arguments: a short run in which no two calls, and no two arguments of a call, can be exchanged.
 use mathlib.Core.List.{List, [], _∷_, _++_}
 use Rattle.answers.specs.Answer.{refusal, done}
-use Rattle.step.specs.Step.{stateLen, vcpusStart, vcpusStop, setup, vcpuAdd, redistBase, vgicSet, itsSet, vgicGet, itsGet, irqPending, irqSetPending, irqClearPending, irqActivate, irqLine, irqTrigger, itsPlace, itsMapEvent, itsMapDevice, itsMove, itsMapCollection, itsDiscard, itsLookup, itsUnmapDevice, itsUnmapCollection, itsSave, itsRestore}
+use Rattle.step.specs.Step.{stateLen, vcpusStart, vcpusStop, setup, vcpuAdd, redistBase, vgicSet, itsSet, vgicGet, itsGet, irqPending, irqSetPending, irqClearPending, irqActivate, irqLine, irqTrigger, itsPlace, itsMapEvent, itsMapDevice, itsMove, itsMapCollection, itsDiscard, itsLookup, itsUnmapDevice, itsUnmapCollection, itsSave, itsRestore, itsExplain}
 use Rattle.step.specs.Run.{Row, Runs, _⇒_, with, writes, word, long, zeros, unmade}
 
 -- §1.2, §1.4, §3.1, §3.5, §3.9, §3.11, §3.12, §5.2: set-up, three VCPUs, frames, both INITs; a get where a set would be -17
@@ -63,7 +63,7 @@ mapped =
     ∷ []
 
 -- §7.4, §9.4: a new guest, with memory for two tables of one page: save writes a collection's entry; restore is refused
--- where one names PE 1 of one
+-- where one names PE 1 of one, and explain names that fault, 2^40 + 2^32 (§13.6)
 abbrev pub savedAndRestored : List Row
 savedAndRestored =
     setup 36 0 0x2000 ⇒ done 0
@@ -77,6 +77,7 @@ savedAndRestored =
     ∷ itsMapCollection 7 0 ⇒ done 0
     ∷ writes itsSave (zeros 0x2000) (done 0) (zeros 0x1000 ++ long 0x8000000000000007 ++ zeros 0xFF8)
     ∷ with itsRestore (zeros 0x1000 ++ long 0x8000000000010007 ++ zeros 0xFF8) (refusal 22)
+    ∷ with itsExplain (zeros 0x1000 ++ long 0x8000000000010007 ++ zeros 0xFF8) (done 0x10100000000)
     ∷ []
 
 -- §10.9: the whole run, from bytes that are no guest yet

@@ -8,7 +8,7 @@ use Rattle.layout.specs.Layout.{size}
 use Rattle.calls.specs.declared.Change.the-variants.{AddVcpu, Start, Stop, VgicSet, SetPending, ClearPending, Activate, Line, Trigger}
 use Rattle.calls.specs.declared.Question.the-variants.{VgicGet, ItsGet, RedistBase, Pending}
 use Rattle.calls.specs.declared.Command.the-variants.{Place, MapDevice, UnmapDevice, MapCollection, UnmapCollection, MapEvent, Discard, Move}
-use Rattle.calls.specs.Call.{Reply, changes, asks, setUp, valueOf, given, answered, commands, itsSets, looks, saves, restores}
+use Rattle.calls.specs.Call.{Reply, changes, asks, setUp, valueOf, given, answered, commands, itsSets, looks, saves, restores, explains}
 
 -- §10.1: a call: one for each function of the header, with its numbers in their order
 pub data Call : Type 0 where
@@ -22,7 +22,7 @@ pub data Call : Type 0 where
   itsMapDevice itsMove : ℕ → ℕ → ℕ → Call
   itsMapCollection itsDiscard itsLookup : ℕ → ℕ → Call
   itsUnmapDevice itsUnmapCollection : ℕ → Call
-  itsSave itsRestore : Call
+  itsSave itsRestore itsExplain : Call
 
 -- Notation: what a call hands back, and what it leaves in the state and in the lent value or memory
 pub record After : Type 0 where
@@ -40,8 +40,8 @@ gives s r = record { answer = r .answer; state = s; lent = r .lent }
 abbrev pub tells : ℤ → List ℕ → List ℕ → After
 tells a s v = record { answer = a; state = s; lent = v }
 
--- §10.1: the call on a state and what is lent to it, which is empty where nothing is; save and restore lend the memory. §1.2: the length is
--- answered of every state. §2.3: four calls answer the number that they are asked for, all others 0.
+-- §10.1: the call on a state and what is lent to it, which is empty where nothing is; save, restore and explain lend the memory. §1.2: the
+-- length is answered of every state. §2.3: five calls answer the number that they are asked for, all others 0.
 abbrev pub step : Call → List ℕ → List ℕ → After
 step stateLen s v = tells (pos size) s v
 step (setup width start len) s v = writes (setUp width start len s) v
@@ -70,6 +70,7 @@ step (itsMove device event icid) s v = writes (commands (Move device event icid)
 step (itsLookup device event) s v = tells (answered (looks device event s)) s v
 step itsSave s v = gives s (saves s v)
 step itsRestore s v = writes (restores s v) v
+step itsExplain s v = tells (answered (explains s v)) s v
 
 -- §10.1: the promise of an export: its answer, and what it leaves in the state and in the lent bytes, written or only read
 pub record Leaves (a : After) (answer : ℤ) (s v : List ℕ) : Type 0 where

@@ -1,6 +1,8 @@
 -- Tables as words, written out from part 6 of docs/DEFINITION.md alone, and the memory that holds them.
 use Prim.Native.Nat.{ℕ, zero, suc, _+_, _-_, _*_, _/_, _^_}
 use mathlib.Core.List.{List, [], _∷_, _++_}
+use lib.IntN.{ℤ}
+use Rattle.answers.specs.Answer.{done}
 use Rattle.step.specs.Run.{long}
 
 -- §6.2: an entry with V set; [48:5] are the ITT's bits 51 to 8, so that an ITT divisible by 256 stands there as ITT / 8
@@ -29,3 +31,7 @@ words (suc n) f = words n f ++ (f n ∷ [])
 -- §5.4: a page, that is 512 entries, for the device table, one for the collection table, and n entries behind them
 abbrev pub image : ℕ → List ℕ → List ℕ → List ℕ → List ℕ
 image n ds cs es = entries 512 ds ++ entries 512 cs ++ entries n es
+
+-- §13.6: the answer that names a fault: its number (§13.4), the table (§13.5), the device of an ITT, the entry
+abbrev pub names : ℕ → ℕ → ℕ → ℕ → ℤ
+names fault table device entry = done (fault * 2 ^ 40 + table * 2 ^ 32 + device * 2 ^ 16 + entry)

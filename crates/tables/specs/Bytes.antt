@@ -11,6 +11,7 @@ use Rattle.guest.specs.Machine.{Machine}
 use Rattle.rules.specs.Rules.{tableArea}
 use Rattle.mapping.specs.declared.Device.{Device}
 use Rattle.mapping.specs.declared.Collection.{Collection}
+use Rattle.mapping.specs.declared.Event.{Event}
 use Rattle.mapping.specs.Mapped.{ittArea}
 use Rattle.chains.specs.Slots.{Cap, atMost, uncapped, Slots}
 
@@ -35,6 +36,14 @@ ittTable m mem d = areaBytes m mem (ittArea d)
 -- §6.3: the collection that entry i of a collection table holds
 abbrev pub collectionAt : List ℕ → ℕ → Collection
 collectionAt t i = record { icid = collectionOf (entryAt t i) .icid; pe = collectionOf (entryAt t i) .pe }
+
+-- §6.2: the device that entry i of a device table holds
+abbrev pub deviceAt : List ℕ → ℕ → Device
+deviceAt t i = record { id = i; itt = deviceOf (entryAt t i) .itt; bits = deviceOf (entryAt t i) .bits }
+
+-- §6.4: the event that entry i of the ITT of device `id` holds
+abbrev pub eventAt : List ℕ → ℕ → ℕ → Event
+eventAt t id i = record { device = id; event = i; lpi = eventOf (entryAt t i) .lpi; icid = eventOf (entryAt t i) .icid }
 
 -- §7.2: the cap of device tables; an ITT has none
 abbrev pub deviceCap : Cap

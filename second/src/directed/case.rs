@@ -1,5 +1,7 @@
 //! What a directed case can do: make a call and say which answer docs/DEFINITION.md gives.
 
+#[cfg(feature = "restore")]
+use crate::call::restore_answer;
 use crate::call::{Call, Device};
 use crate::sides::Side;
 
@@ -7,6 +9,8 @@ pub struct Case<'a> {
     side: &'a mut dyn Side,
     step: usize,
     pub notes: Vec<String>,
+    /// What explain answered before each restore.
+    pub explained: Vec<i64>,
 }
 
 pub const VGIC: Device = Device::Vgic;
@@ -14,22 +18,44 @@ pub const ITS: Device = Device::Its;
 
 impl<'a> Case<'a> {
     pub fn new(side: &'a mut dyn Side) -> Case<'a> {
-        Case { side, step: 0, notes: Vec::new() }
+        Case { side, step: 0, notes: Vec::new(), explained: Vec::new() }
+    }
+
+    fn note(&mut self, call: &Call, complaint: &str) {
+        self.notes.push(format!("step {}, {call:x?}: {complaint}", self.step));
+    }
+
+    fn make(&mut self, call: &Call, lent: &mut [u8]) -> i64 {
+        let mut complaints = Vec::new();
+        let answer = self.side.call(call, lent, &mut complaints);
+        self.step += 1;
+        complaints.iter().for_each(|complaint| self.note(call, complaint));
+        answer
     }
 
     /// Makes the call with lent bytes and hands back what they hold after it.
     pub fn lent(&mut self, call: Call, bytes: &[u8], want: i64) -> Vec<u8> {
-        let mut lent = bytes.to_vec();
-        let mut complaints = Vec::new();
-        let answer = self.side.call(&call, &mut lent, &mut complaints);
-        self.step += 1;
-        if answer != want {
-            complaints.push(format!("answered {answer}, expected {want}"));
+        #[cfg(feature = "restore")]
+        if call == Call::Restore {
+            self.explain_first(bytes, want);
         }
-        for complaint in complaints {
-            self.notes.push(format!("step {}, {call:x?}: {complaint}", self.step));
+        let mut lent = bytes.to_vec();
+        let answer = self.make(&call, &mut lent);
+        if answer != want {
+            self.note(&call, &format!("answered {answer}, expected {want}"));
         }
         lent
+    }
+
+    /// §13.1: no restore without explain right before it, on the same state and memory. What it names must be what the
+    /// restore is then refused with (§13.2 to §13.4).
+    #[cfg(feature = "restore")]
+    fn explain_first(&mut self, memory: &[u8], restored: i64) {
+        let explained = self.make(&Call::Explain, &mut memory.to_vec());
+        if restore_answer(explained) != Some(restored) {
+            self.note(&Call::Explain, &format!("answered {explained:#x}, a restore is expected to give {restored}"));
+        }
+        self.explained.push(explained);
     }
 
     pub fn expect(&mut self, call: Call, want: i64) {

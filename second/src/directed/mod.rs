@@ -4,11 +4,15 @@
 
 mod banks;
 mod case;
+#[cfg(feature = "restore")]
+mod explain;
 mod frames;
 mod holds;
 #[cfg(feature = "its")]
 mod its;
 mod numbers;
+#[cfg(feature = "restore")]
+mod order;
 #[cfg(feature = "restore")]
 mod restore;
 #[cfg(feature = "its")]
@@ -36,14 +40,25 @@ fn all() -> Vec<Row> {
     rows.extend_from_slice(save::CASES);
     #[cfg(feature = "restore")]
     rows.extend_from_slice(restore::CASES);
+    #[cfg(feature = "restore")]
+    rows.extend_from_slice(explain::CASES);
+    #[cfg(feature = "restore")]
+    rows.extend_from_slice(order::CASES);
     rows
 }
 
 pub fn run(report: &mut Report) {
     for (name, body) in all() {
-        run_one(&mut Library::new(&vec![0x5a; Library::len()]), Kind::DirectedLibrary, name, body, report);
-        run_one(&mut Model::default(), Kind::DirectedModel, name, body, report);
+        let mut library = Library::new(&vec![0x5a; Library::len()]);
+        let theirs = run_one(&mut library, Kind::DirectedLibrary, name, body, report);
+        let ours = run_one(&mut Model::default(), Kind::DirectedModel, name, body, report);
+        if theirs != ours {
+            let note = format!("before its restores explain answers {theirs:x?}, in the model {ours:x?}");
+            report.fail(Kind::DirectedLibrary, &format!("directed library: {name}"), &note);
+        }
     }
+    #[cfg(feature = "restore")]
+    explain::states(report);
     in_turns(report);
     #[cfg(feature = "its")]
     sound::run(report);
@@ -56,11 +71,14 @@ pub fn run_both(report: &mut Report) {
         let mut both = Both { library, model: Model::default() };
         run_one(&mut both, Kind::DirectedLibrary, name, body, report);
     }
+    #[cfg(feature = "restore")]
+    explain::states(report);
     #[cfg(feature = "its")]
     sound::run(report);
 }
 
-fn run_one(side: &mut dyn Side, kind: Kind, name: &str, body: fn(&mut Case), report: &mut Report) {
+/// Runs a case; what explain answered before its restores.
+fn run_one(side: &mut dyn Side, kind: Kind, name: &str, body: fn(&mut Case), report: &mut Report) -> Vec<i64> {
     let label = if kind == Kind::DirectedModel { "model" } else { "library" };
     let mut case = Case::new(side);
     case.setup(40, 0x4000_0000, 0x10_0000, 0);
@@ -69,6 +87,7 @@ fn run_one(side: &mut dyn Side, kind: Kind, name: &str, body: fn(&mut Case), rep
         None => report.pass(1),
         Some(note) => report.fail(kind, &format!("directed {label}: {name}"), note),
     }
+    case.explained
 }
 
 /// A guest's first calls, other ones for each `n`.

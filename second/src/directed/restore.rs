@@ -34,26 +34,26 @@ pub const CASES: &[(&str, fn(&mut Case))] = &[
     ("§9.8 damage that still describes a mapping is restored", lost_quietly),
 ];
 
-const LENGTH: usize = 0x10_0000;
-const DEVICES: u64 = MEMORY;
-const COLLECTIONS: u64 = MEMORY + 0x1000;
-const ITT: u64 = MEMORY + 0x2000;
+pub const LENGTH: usize = 0x10_0000;
+pub const DEVICES: u64 = MEMORY;
+pub const COLLECTIONS: u64 = MEMORY + 0x1000;
+pub const ITT: u64 = MEMORY + 0x2000;
 
 /// A device entry with V set: next, ITT address, bits - 1.
-fn device(next: u64, itt: u64, size: u64) -> u64 {
+pub fn device(next: u64, itt: u64, size: u64) -> u64 {
     1 << 63 | next << 49 | itt >> 8 << 5 | size
 }
 
-fn collection(icid: u64, pe: u64) -> u64 {
+pub fn collection(icid: u64, pe: u64) -> u64 {
     1 << 63 | pe << 16 | icid
 }
 
-fn event(next: u64, lpi: u64, icid: u64) -> u64 {
+pub fn event(next: u64, lpi: u64, icid: u64) -> u64 {
     next << 48 | lpi << 16 | icid
 }
 
 /// Zeroed memory with entries at their addresses.
-fn image(entries: &[(u64, u64)]) -> Memory {
+pub fn image(entries: &[(u64, u64)]) -> Memory {
     let mut memory = Memory { bytes: vec![0; LENGTH], start: MEMORY };
     entries.iter().for_each(|(address, entry)| memory.put(*address, *entry));
     memory
@@ -96,7 +96,7 @@ fn empty(c: &mut Case) {
     c.device(0, ITT, 5, 0);
 }
 
-const SAMPLE: [(u64, u64); 3] =
+pub const SAMPLE: [(u64, u64); 3] =
     [(DEVICES, 0x8000_0000_0800_0404), (COLLECTIONS, 0x8000_0000_0001_0007), (ITT + 8, 0x0000_0000_2000_0007)];
 
 fn sample(c: &mut Case) {
@@ -185,7 +185,8 @@ fn device_next(c: &mut Case) {
     c.restore(&[row(0, 1), row(1, 1), row(2, 1)], -22);
 }
 
-fn placed_wide(c: &mut Case) {
+/// A device table of 64 pages, 32,768 entries.
+pub fn placed_wide(c: &mut Case) {
     c.setup(40, MEMORY, 0x10_0000, 0);
     c.its_ready();
     c.place(MEMORY + 0x2_0000, 64, MEMORY, 1, 0);

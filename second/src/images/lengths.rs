@@ -21,6 +21,7 @@ pub fn add(set: &mut Set) {
     set.begin("example");
     set.add("itself", example(4), Want::Whole(EXAMPLE.into()));
     samples(set);
+    explained(set);
     set.begin("empty");
     empty(set);
     set.begin("length");
@@ -39,6 +40,15 @@ fn samples(set: &mut Set) {
     let chained = example(3).put(ROOM + 8, P4_NEXT_2);
     set.refused("event-next-2-onto-nothing", chained.clone(), -22);
     set.shown("event-next-2-onto-an-event", chained.put(ROOM + 8 * 3, P4), [1, 1, 2]);
+}
+
+/// §13.12: the example as it is explained, with next 3, and with ICID 8 in the event.
+fn explained(set: &mut Set) {
+    set.explained("explained", example(4), "described");
+    let next_3 = example(4).put(DEVICES, P2_NEXT_3);
+    set.explained("with-next-3", next_3, "refused -22: device table, entry 0: next");
+    let icid_8 = example(4).put(ROOM + 8, P4 + 1);
+    set.explained("with-icid-8", icid_8, "refused -22: ITT of device 0, entry 1: ICID not in the collections");
 }
 
 /// §12.10.

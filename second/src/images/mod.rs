@@ -1,5 +1,5 @@
-//! Images for the showing program (§11.1), always the same, named by what they are. Beside each stands what
-//! docs/DEFINITION.md says of it; the paragraphs are named over the functions.
+//! Images for the showing and the explaining program (§11.1, §13.11), always the same, named by what they are. Beside
+//! each stands what docs/DEFINITION.md says of it; the paragraphs are named over the functions.
 //!
 //! A device table of one page has 512 entries and an ITT inside 65,536 bytes at most 4,096, so no chain here can be one
 //! that the cap of §7.2 shortens: a next of 16,383 always leaves its table, and so does one of 65,535 in an ITT. What
@@ -10,13 +10,14 @@ mod collections;
 mod damage;
 mod devices;
 mod events;
+mod faults;
 mod image;
 mod lengths;
 mod order;
 mod places;
 mod random;
 
-use crate::show;
+use crate::{explain, show};
 use image::Image;
 use std::fs;
 use std::io::{Error, Result, Write};
@@ -28,8 +29,10 @@ enum Want {
     Counts([usize; 3]),
     /// §11.3.
     Refused(i64),
-    /// §11.2: all that is written.
+    /// §11.2: all that is shown.
     Whole(String),
+    /// §13.11: the line that explains it.
+    Line(String),
     /// Damage at random: nobody wrote the answer out.
     Open,
 }
@@ -64,6 +67,10 @@ impl Set {
     fn refused(&mut self, name: &str, image: Image, number: i64) {
         self.add(name, image, Want::Refused(number));
     }
+
+    fn explained(&mut self, name: &str, image: Image, line: &str) {
+        self.add(name, image, Want::Line(line.into()));
+    }
 }
 
 impl Row {
@@ -75,14 +82,24 @@ impl Row {
             Want::Counts(counts) => ["collections", "devices", "events"].iter().zip(counts).all(|(t, n)| has(t, n)),
             Want::Refused(number) => text == format!("refused {number}\n"),
             Want::Whole(whole) => text == *whole,
+            Want::Line(line) => explain::text(&self.bytes) == format!("{line}\n"),
             Want::Open => true,
+        }
+    }
+
+    /// §13.10: what is shown is `described`, and of another image both lines begin with the same refusal.
+    fn both_programs_agree(&self) -> bool {
+        let (shown, explained) = (show::text(&self.bytes), explain::text(&self.bytes));
+        match shown.strip_suffix('\n').filter(|line| line.starts_with("refused ")) {
+            Some(refused) => explained.starts_with(&format!("{refused}: ")),
+            None => explained == "described\n",
         }
     }
 
     /// A name that is there already is a fault of the set: one of the two images would be lost.
     fn write(&self, folder: &Path) -> Result<()> {
         let file = format!("{}-{}", self.kind, self.name);
-        if !self.agrees() {
+        if !self.agrees() || !self.both_programs_agree() {
             return Err(Error::other(format!("{file}: the model says something else than what is expected")));
         }
         let created = fs::File::create_new(folder.join(&file));
@@ -98,6 +115,7 @@ fn all() -> Set {
     places::add(&mut set);
     events::add(&mut set);
     order::add(&mut set);
+    faults::add(&mut set);
     random::add(&mut set);
     set
 }

@@ -105,6 +105,8 @@ impl Guest {
             Call::Save => self.save(lent),
             #[cfg(feature = "restore")]
             Call::Restore => self.restore(lent),
+            #[cfg(feature = "restore")]
+            Call::Explain => self.explain(lent),
             _ => unreachable!("no call of the ITS"),
         }
     }

@@ -1,4 +1,4 @@
-//! The model of docs/DEFINITION.md: parts 1 to 9, with no thought for speed and with its own way of holding the state.
+//! The model of docs/DEFINITION.md: parts 1 to 9 and 13, with no thought for speed and with its own way of holding the state.
 //! Every rule names its paragraph. The test of the state (§1.3) is not here, but in `state` and `random`: the model has
 //! no bytes.
 
@@ -7,10 +7,14 @@ pub mod attributes;
 pub mod banks;
 #[cfg(feature = "restore")]
 pub mod described;
+#[cfg(feature = "restore")]
+pub mod explain;
 pub mod frames;
 pub mod guest;
 #[cfg(feature = "its")]
 pub mod its;
+#[cfg(feature = "restore")]
+pub mod readings;
 #[cfg(feature = "restore")]
 pub mod restore;
 #[cfg(feature = "its")]

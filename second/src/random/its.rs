@@ -397,8 +397,11 @@ pub fn each_kind(pair: &mut Pair) -> Vec<(Call, Vec<u8>)> {
         (Call::Lookup { device, event }, vec![]),
         (Call::Save, vec![1; 4096]),
     ];
+    // The right length too, where that is not much to lend.
     #[cfg(feature = "restore")]
-    list.push((Call::Restore, vec![0; 4096]));
+    for length in [4096, memory_length(pair).min(1 << 18)] {
+        list.extend([Call::Explain, Call::Restore].map(|call| (call, vec![0; length as usize])));
+    }
     list.push((any(pair), vec![]));
     list
 }

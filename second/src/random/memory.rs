@@ -1,6 +1,7 @@
 //! Memory for restore: what a save left or a mapping written out entry by entry, then spoilt here and there.
 //! Each restore (part 9) is also held against what the bytes describe (part 8).
 
+use super::aim;
 use super::far;
 use super::its::lent_memory;
 use super::long::{self, Long};
@@ -29,7 +30,7 @@ impl Image {
         }
     }
 
-    fn entry(&self, table: u64, index: u64) -> u64 {
+    pub fn entry(&self, table: u64, index: u64) -> u64 {
         self.place(table, index).map_or(0, |place| u64::from_le_bytes(self.bytes[place].try_into().expect("8 bytes")))
     }
 
@@ -118,7 +119,7 @@ fn only_one(pair: &mut Pair, mapping: Mapping, memory: &[u8]) {
     }
 }
 
-/// An image of one long next, which stays as it is, or another, which is spoilt.
+/// An image of one long next, which stays as it is, one that aims at a fault, or another, which is spoilt.
 fn make_image(pair: &mut Pair, tables: Tables) -> (Vec<u8>, Option<Long>) {
     let start = pair.guest().memory.start as u64;
     let mut image = Image { bytes: pair.memory.clone(), start, tables };
@@ -126,6 +127,10 @@ fn make_image(pair: &mut Pair, tables: Tables) -> (Vec<u8>, Option<Long>) {
         if let Some(long) = long::write_out(pair, &mut image) {
             return (image.bytes, Some(long));
         }
+    }
+    if pair.rng.one_in(2) {
+        aim::write_out(pair, &mut image);
+        return (image.bytes, None);
     }
     (spoilt_image(pair, image), None)
 }
@@ -148,7 +153,7 @@ fn spoilt_image(pair: &mut Pair, mut image: Image) -> Vec<u8> {
 
 /// Rising IDs below `limit`: one after another, close together, far apart, around the devices' cap, or as far apart as
 /// events can be.
-fn rising(pair: &mut Pair, count: u64, limit: u64) -> Vec<u64> {
+pub fn rising(pair: &mut Pair, count: u64, limit: u64) -> Vec<u64> {
     if pair.rng.one_in(3) {
         return (0..count.min(limit)).collect();
     }
@@ -168,7 +173,7 @@ fn rising(pair: &mut Pair, count: u64, limit: u64) -> Vec<u64> {
 }
 
 /// §7.2, but for the devices' cap.
-fn distance(ids: &[u64], n: usize) -> u64 {
+pub fn distance(ids: &[u64], n: usize) -> u64 {
     ids.get(n + 1).map_or(0, |following| following - ids[n])
 }
 

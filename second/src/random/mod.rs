@@ -1,8 +1,12 @@
 //! Seeded sequences: each is one guest's life, made on the library and on the model side by side.
 
+#[cfg(feature = "restore")]
+mod aim;
 mod attributes;
 mod calls;
 mod damage;
+#[cfg(feature = "restore")]
+mod explained;
 #[cfg(feature = "its")]
 mod far;
 #[cfg(feature = "its")]
@@ -49,6 +53,8 @@ struct Depth {
     full_mappings: [u64; 3],
     #[cfg(feature = "its")]
     far: far::Reach,
+    #[cfg(feature = "restore")]
+    explained: explained::Explained,
 }
 
 impl Depth {
@@ -72,6 +78,8 @@ impl Depth {
             self.full_mappings[n] += pair.full[n] as u64;
         }
         self.far.add(&pair.far);
+        #[cfg(feature = "restore")]
+        self.explained.add(&pair.explained);
     }
 
     fn tell(&self, seed: u64) {
@@ -91,6 +99,8 @@ impl Depth {
         );
         #[cfg(feature = "its")]
         self.far.tell();
+        #[cfg(feature = "restore")]
+        self.explained.tell();
         self.tally.tell();
     }
 }
@@ -107,6 +117,8 @@ pub fn run(seed: u64, calls: u64, hunt: bool, report: &mut Report) {
         check_reach(&depth.tally, report);
         #[cfg(feature = "restore")]
         depth.far.check(report);
+        #[cfg(feature = "restore")]
+        depth.explained.check(report);
     }
 }
 

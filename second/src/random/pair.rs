@@ -1,8 +1,12 @@
 //! The library and the model side by side. A sequence stops at the first difference.
 
 use super::damage::{agree, Tally};
+#[cfg(feature = "restore")]
+use super::explained::Explained;
 #[cfg(feature = "its")]
 use super::far;
+#[cfg(feature = "restore")]
+use crate::call::restore_answer;
 use crate::call::{Call, ITS_STEPS};
 use crate::model::{Guest, Model};
 use crate::rng::Rng;
@@ -34,6 +38,9 @@ pub struct Pair {
     /// Events that are far apart.
     #[cfg(feature = "its")]
     pub far: far::Reach,
+    /// What explain answered.
+    #[cfg(feature = "restore")]
+    pub explained: Explained,
     tell: bool,
 }
 
@@ -75,6 +82,8 @@ impl Pair {
             full: [false; 3],
             #[cfg(feature = "its")]
             far: far::Reach::default(),
+            #[cfg(feature = "restore")]
+            explained: Explained::default(),
             tell,
         }
     }
@@ -92,6 +101,27 @@ impl Pair {
         if !self.stands() || (call.is_its_step(&lent) && !ITS_STEPS) {
             return None;
         }
+        #[cfg(feature = "restore")]
+        if call == Call::Restore {
+            return self.explain_and_restore(lent);
+        }
+        self.make_one(call, lent)
+    }
+
+    /// §13.1: no restore without explain right before it, on the same state and memory. What it names must be what the
+    /// restore is then refused with (§13.2 to §13.4).
+    #[cfg(feature = "restore")]
+    fn explain_and_restore(&mut self, memory: Vec<u8>) -> Option<(i64, Vec<u8>)> {
+        let (explained, memory) = self.make_one(Call::Explain, memory)?;
+        let (restored, memory) = self.make_one(Call::Restore, memory)?;
+        self.explained.count(explained);
+        if restore_answer(explained) != Some(restored) {
+            self.differ(&format!("explain answers {explained:#x}, and the restore behind it {restored}"));
+        }
+        Some((restored, memory))
+    }
+
+    fn make_one(&mut self, call: Call, lent: Vec<u8>) -> Option<(i64, Vec<u8>)> {
         self.step += 1;
         let lent_before = short(&lent);
         let result = compare(&mut self.model, &mut self.library, &call, lent);

@@ -35,7 +35,8 @@ visit-collection-requires : tie.Need-visit-collection-requires Inv-loop μ-loop
 visit-collection-requires c κs =
     let l = c .before .before .before .before in
     let a = l .before in
-    (collections-begun _ _ _ _ _ (a .loop .inv) (a .before .before .before .pre), omega (arith, a .loop .inv .size, l .loop-test .taken))
+    (collections-begun _ _ _ _ _ (a .loop .inv) (a .before .before .before .pre .0), omega (arith, a .loop .inv .size, l .loop-test .taken),
+    omega (arith, a .loop .inv .size, l .loop-test .taken, a .before .before .before .pre .1))
 
 same-length-2 : tie.Need-same-length-2 Inv-loop μ-loop
 same-length-2 c = search needs

@@ -41,20 +41,29 @@ follow-requires c κs =
 enum-told : tie.Need-enum-told Inv-loop μ-loop
 enum-told c = search needs
 
+visit-device-requires : tie.Need-visit-device-requires Inv-loop μ-loop
+visit-device-requires c κs =
+    let a = c .before .before .before .before in
+    let s = a .before .before .before .before .before .before in
+    let h = walk-inside _ _ _ _ _ _ _ (a .loop .inv .0) (s .pre .0) in
+    (walk-begun _ _ _ _ _ _ _ (a .loop .inv .0) (s .pre .0), walk-memory _ _ _ _ _ _ _ (a .loop .inv .0) (s .pre .0) _ (s .pre .1), h, omega (arith, s .pre .2))
+
 same-length : tie.Need-same-length Inv-loop μ-loop
 same-length c = search needs
 
 returns-2 : tie.Need-returns-2 Inv-loop μ-loop
 returns-2 c =
-    let f = c .before .before in
+    let v = c .before .before in
+    let m = v .before .before in
+    let f = m .before .before in
     let a = f .before in
-    walk-bad _ _ _ _ _ _ _ (a .loop .inv .0) _ (f .follow .ensures) (c .enum-told .given .1)
+    walk-bad _ _ _ _ _ _ _ (a .loop .inv .0) _ (f .follow .ensures) _ _ (v .visit-device .ensures) (m .enum-told .given .1)
 
 enum-told-2 : tie.Need-enum-told-2 Inv-loop μ-loop
 enum-told-2 c = search needs
 
-visit-device-requires : tie.Need-visit-device-requires Inv-loop μ-loop
-visit-device-requires c κs =
+visit-device-requires-2 : tie.Need-visit-device-requires-2 Inv-loop μ-loop
+visit-device-requires-2 c κs =
     let a = c .before .before .before .before in
     let s = a .before .before .before .before .before .before in
     let h = walk-inside _ _ _ _ _ _ _ (a .loop .inv .0) (s .pre .0) in
@@ -69,13 +78,13 @@ returns-3 c =
     let m = v .before .before in
     let f = m .before .before in
     let a = f .before in
-    walk-last _ _ _ _ _ _ _ (a .loop .inv .0) _ (f .follow .ensures) _ _ (v .visit-device .ensures) (m .enum-told2 .given .1)
+    walk-last _ _ _ _ _ _ _ (a .loop .inv .0) _ (f .follow .ensures) _ _ (v .visit-device2 .ensures) (m .enum-told2 .given .1)
 
 enum-known-j : tie.Need-enum-known-j Inv-loop μ-loop
 enum-known-j c = search needs
 
-visit-device-requires-2 : tie.Need-visit-device-requires-2 Inv-loop μ-loop
-visit-device-requires-2 c κs =
+visit-device-requires-3 : tie.Need-visit-device-requires-3 Inv-loop μ-loop
+visit-device-requires-3 c κs =
     let a = c .before .before .before .before .before in
     let s = a .before .before .before .before .before .before in
     let h = walk-inside _ _ _ _ _ _ _ (a .loop .inv .0) (s .pre .0) in
@@ -90,7 +99,7 @@ returns-4 c =
     let m = v .before .before .before in
     let f = m .before .before in
     let a = f .before in
-    walk-fault _ _ _ _ _ _ _ (a .loop .inv .0) _ (f .follow .ensures) _ _ (v .visit-device2 .ensures) _ (m .j .given .1) (c .if2 .taken)
+    walk-fault _ _ _ _ _ _ _ (a .loop .inv .0) _ (f .follow .ensures) _ _ (v .visit-device3 .ensures) _ (m .j .given .1) (c .if2 .taken)
 
 loop-less : tie.Need-loop-less Inv-loop μ-loop
 loop-less c =
@@ -105,7 +114,7 @@ loop-again c =
     let m = v .before .before .before in
     let f = m .before .before in
     let a = f .before in
-    (walk-on _ _ _ _ _ _ _ (a .loop .inv .0) _ (f .follow .ensures) _ _ (v .visit-device2 .ensures) _ (m .j .given .1) (c .if2 .left), v .visit-device2 .kept .0 ∙ a .loop .inv .1)
+    (walk-on _ _ _ _ _ _ _ (a .loop .inv .0) _ (f .follow .ensures) _ _ (v .visit-device3 .ensures) _ (m .j .given .1) (c .if2 .left), v .visit-device3 .kept .0 ∙ a .loop .inv .1)
 
 pub read-devices-spec : {M : Type 1} → statement M
 read-devices-spec =
@@ -118,14 +127,15 @@ read-devices-spec =
     loop-holds
     follow-requires
     enum-told
+    visit-device-requires
     same-length
     returns-2
     enum-told-2
-    visit-device-requires
+    visit-device-requires-2
     same-length-2
     returns-3
     enum-known-j
-    visit-device-requires-2
+    visit-device-requires-3
     same-length-3
     returns-4
     loop-less

@@ -39,20 +39,29 @@ follow-requires c κs =
 enum-told : tie.Need-enum-told Inv-loop μ-loop
 enum-told c = search needs
 
+visit-event-requires : tie.Need-visit-event-requires Inv-loop μ-loop
+visit-event-requires c κs =
+    let a = c .before .before .before .before in
+    let s = a .before .before .before .before .before in
+    let h = walk-inside _ _ _ _ _ _ _ (a .loop .inv .0) (s .pre .0) in
+    (walk-begun _ _ _ _ _ _ _ (a .loop .inv .0) (s .pre .0), h, omega (arith, s .pre .1))
+
 same-length : tie.Need-same-length Inv-loop μ-loop
 same-length c = search needs
 
 returns-2 : tie.Need-returns-2 Inv-loop μ-loop
 returns-2 c =
-    let f = c .before .before in
+    let v = c .before .before in
+    let m = v .before .before in
+    let f = m .before .before in
     let a = f .before in
-    walk-bad _ _ _ _ _ _ _ (a .loop .inv .0) _ (f .follow .ensures) (c .enum-told .given .1)
+    walk-bad _ _ _ _ _ _ _ (a .loop .inv .0) _ (f .follow .ensures) _ _ (v .visit-event .ensures) (m .enum-told .given .1)
 
 enum-told-2 : tie.Need-enum-told-2 Inv-loop μ-loop
 enum-told-2 c = search needs
 
-visit-event-requires : tie.Need-visit-event-requires Inv-loop μ-loop
-visit-event-requires c κs =
+visit-event-requires-2 : tie.Need-visit-event-requires-2 Inv-loop μ-loop
+visit-event-requires-2 c κs =
     let a = c .before .before .before .before in
     let s = a .before .before .before .before .before in
     let h = walk-inside _ _ _ _ _ _ _ (a .loop .inv .0) (s .pre .0) in
@@ -67,13 +76,13 @@ returns-3 c =
     let m = v .before .before in
     let f = m .before .before in
     let a = f .before in
-    walk-last _ _ _ _ _ _ _ (a .loop .inv .0) _ (f .follow .ensures) _ _ (v .visit-event .ensures) (m .enum-told2 .given .1)
+    walk-last _ _ _ _ _ _ _ (a .loop .inv .0) _ (f .follow .ensures) _ _ (v .visit-event2 .ensures) (m .enum-told2 .given .1)
 
 enum-known-j : tie.Need-enum-known-j Inv-loop μ-loop
 enum-known-j c = search needs
 
-visit-event-requires-2 : tie.Need-visit-event-requires-2 Inv-loop μ-loop
-visit-event-requires-2 c κs =
+visit-event-requires-3 : tie.Need-visit-event-requires-3 Inv-loop μ-loop
+visit-event-requires-3 c κs =
     let a = c .before .before .before .before .before in
     let s = a .before .before .before .before .before in
     let h = walk-inside _ _ _ _ _ _ _ (a .loop .inv .0) (s .pre .0) in
@@ -88,7 +97,7 @@ returns-4 c =
     let m = v .before .before .before in
     let f = m .before .before in
     let a = f .before in
-    walk-fault _ _ _ _ _ _ _ (a .loop .inv .0) _ (f .follow .ensures) _ _ (v .visit-event2 .ensures) _ (m .j .given .1) (c .if2 .taken)
+    walk-fault _ _ _ _ _ _ _ (a .loop .inv .0) _ (f .follow .ensures) _ _ (v .visit-event3 .ensures) _ (m .j .given .1) (c .if2 .taken)
 
 loop-less : tie.Need-loop-less Inv-loop μ-loop
 loop-less c =
@@ -103,7 +112,7 @@ loop-again c =
     let m = v .before .before .before in
     let f = m .before .before in
     let a = f .before in
-    (walk-on _ _ _ _ _ _ _ (a .loop .inv .0) _ (f .follow .ensures) _ _ (v .visit-event2 .ensures) _ (m .j .given .1) (c .if2 .left), v .visit-event2 .kept .0 ∙ a .loop .inv .1)
+    (walk-on _ _ _ _ _ _ _ (a .loop .inv .0) _ (f .follow .ensures) _ _ (v .visit-event3 .ensures) _ (m .j .given .1) (c .if2 .left), v .visit-event3 .kept .0 ∙ a .loop .inv .1)
 
 pub read-events-spec : {M : Type 1} → statement M
 read-events-spec =
@@ -116,14 +125,15 @@ read-events-spec =
     loop-holds
     follow-requires
     enum-told
+    visit-event-requires
     same-length
     returns-2
     enum-told-2
-    visit-event-requires
+    visit-event-requires-2
     same-length-2
     returns-3
     enum-known-j
-    visit-event-requires-2
+    visit-event-requires-3
     same-length-3
     returns-4
     loop-less

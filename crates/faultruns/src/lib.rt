@@ -1,0 +1,1 @@
+// Computed runs: each fault of a restore by its code.

@@ -1,0 +1,10 @@
+pub mod Names
+pub mod Order
+pub mod Judge
+pub mod Along
+pub mod Walked
+pub mod Events
+pub mod Collections
+pub mod Devices
+pub mod Bounds
+pub mod Explained
