@@ -1,5 +1,5 @@
-# make: proves everything, builds the archive and the programs `show` and `explain`, and moves a guest in the demo. make check: the whole gate, which
-# installs what is missing; every other target only names it.
+# make: proves everything, builds the archive and the programs `show` and `explain`, and moves a guest and the words of an XICS in the demo. make
+# check: the whole gate, which installs what is missing; every other target only names it.
 .PHONY: all check faults header demo arm bench show explain audit clean
 all:
 	@scripts/tools rt gcc
@@ -20,7 +20,7 @@ faults:
 header: target/staticlib/libritikancha.a
 	scripts/header
 
-# a guest moves from one box to another: target/demo/migrate
+# a guest moves from one box to another: target/demo/migrate; and so do the words of an XICS: target/demo/xics
 demo: target/staticlib/libritikancha.a
 	scripts/demo
 

@@ -5,6 +5,7 @@
 
 #include "plain.h"
 #include "ritikancha.h"
+#include "xics.h"
 
 /* ---- the calls, over and over; a timed call that is refused ends the bench */
 
@@ -88,6 +89,19 @@ static void plain_line(struct scenario *s, uint64_t times)
         timed(plain_irq_line(s->state, STATE_BYTES, 0, 40, i & 1) == 0);
 }
 
+/* the sources in turn */
+static void library_deliverable(struct scenario *s, uint64_t times)
+{
+    for (uint64_t i = 0; i < times; i++)
+        timed(rk_xics_deliverable(s->state, XICS_BYTES, source_number(i % XICS_ROWS)) >= 0);
+}
+
+static void plain_deliverable(struct scenario *s, uint64_t times)
+{
+    for (uint64_t i = 0; i < times; i++)
+        timed(plain_xics_deliverable(s->state, XICS_BYTES, source_number(i % XICS_ROWS)) >= 0);
+}
+
 static void touch_bytes(struct scenario *s, uint64_t times)
 {
     for (uint64_t i = 0; i < times; i++)
@@ -109,6 +123,7 @@ struct scenario scenarios[SCENARIOS] = {
     [LINE_SMALL] = {.call = "irq_line", .guest = SMALL, .run = {touch_bytes, plain_line, library_line}},
     [LINE_SOME] = {.call = "irq_line", .guest = SOME, .run = {touch_bytes, plain_line, library_line}},
     [LINE_FULL] = {.call = "irq_line", .guest = FULL, .run = {touch_bytes, plain_line, library_line}},
+    [DELIVERABLE_FULL] = {.call = "deliverable", .guest = FULL, .run = {touch_bytes, plain_deliverable, library_deliverable}},
 };
 
 /* ---- the bytes that a call must touch */
@@ -226,6 +241,15 @@ static void lend_bytes(struct scenario *s)
     s->event = event_row(s->state + AT_MAPPING, 0);
 }
 
+/* An XICS that is full is read to its last byte. */
+static void lend_xics(struct scenario *s)
+{
+    s->runs = malloc(MAX_RUNS * sizeof s->runs[0]);
+    need(s->runs != NULL, "no memory");
+    memcpy(s->state, full_xics, XICS_BYTES);
+    read_run(s, s->state, XICS_BYTES);
+}
+
 static void make_scenario(struct scenario *s)
 {
     bool restores = s->run[LIBRARY] == library_restore;
@@ -246,8 +270,9 @@ static void make_scenario(struct scenario *s)
 
 void make_scenarios(void)
 {
-    for (int i = 0; i < SCENARIOS; i++)
+    for (int i = 0; i < DELIVERABLE_FULL; i++)
         make_scenario(&scenarios[i]);
+    lend_xics(&scenarios[DELIVERABLE_FULL]);
 }
 
 /* A restore of what was saved gives the mapping that stood, and save, explain and lookup change no state: only lines do. */
@@ -255,4 +280,5 @@ void check_scenarios(void)
 {
     for (int i = 0; i < LINE_SMALL; i++)
         need(memcmp(scenarios[i].state, guests[scenarios[i].guest].state, STATE_BYTES) == 0, "a timed call left another state");
+    need(memcmp(scenarios[DELIVERABLE_FULL].state, full_xics, XICS_BYTES) == 0, "a timed call left another XICS");
 }

@@ -15,7 +15,7 @@ struct scenario {
     int guest;
     double target; /* the library's time over plain C's; 0: none set */
     void (*run[DOERS])(struct scenario *s, uint64_t times);
-    uint8_t state[STATE_BYTES];
+    uint8_t state[STATE_BYTES]; /* or an XICS, which is shorter */
     uint8_t *memory;
     size_t memory_len;
     const uint8_t *event; /* the next event's row to look up */
@@ -24,7 +24,7 @@ struct scenario {
 };
 
 enum { SAVE_SOME, SAVE_BLANK, SAVE_WIDE, RESTORE_SOME, RESTORE_BLANK, RESTORE_WIDE, EXPLAIN_SOME, EXPLAIN_BLANK, EXPLAIN_WIDE,
-       LOOKUP_SOME, LOOKUP_WIDE, LINE_SMALL, LINE_SOME, LINE_FULL, SCENARIOS };
+       LOOKUP_SOME, LOOKUP_WIDE, LINE_SMALL, LINE_SOME, LINE_FULL, DELIVERABLE_FULL, SCENARIOS };
 
 extern struct scenario scenarios[SCENARIOS];
 

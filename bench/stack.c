@@ -8,6 +8,7 @@
 #include "guests.h"
 #include "plain.h"
 #include "ritikancha.h"
+#include "xics.h"
 
 #define STACK_BYTES ((size_t)1 << 20)
 #define GUARD_BYTES 4096
@@ -17,6 +18,7 @@ static uint8_t state[STATE_BYTES];
 static uint8_t *memory;
 static size_t memory_len;
 static uint8_t value[8];
+static uint8_t xics[XICS_BYTES];
 
 /* the lent value, holding a number */
 static uint8_t *holding(uint64_t number)
@@ -28,6 +30,7 @@ static uint8_t *holding(uint64_t number)
 /* ---- every call. Where one has several ways through, each is here: what one guest refuses, another accepts. */
 
 #define STATE state, STATE_BYTES
+#define XICS xics, XICS_BYTES
 
 static int64_t nothing(void) { return 0; }
 static int64_t state_len(void) { return rk_state_len(); }
@@ -73,6 +76,16 @@ static int64_t lookup(void) { return rk_its_lookup(STATE, 8, 0); }
 static int64_t save(void) { return rk_its_save(STATE, memory, memory_len); }
 static int64_t restore(void) { return rk_its_restore(STATE, memory, memory_len); }
 static int64_t explain(void) { return rk_its_explain(STATE, memory, memory_len); }
+static int64_t xics_len(void) { return rk_xics_len(); }
+static int64_t xics_setup(void) { return rk_xics_setup(XICS); }
+static int64_t add_server(void) { return rk_xics_add_server(XICS, server_number(63)); }
+static int64_t add_source(void) { return rk_xics_add_source(XICS, source_number(63), server_number(62)); }
+static int64_t set_source(void) { return rk_xics_set_source(XICS, source_number(62), holding(server_number(62)), 8); }
+static int64_t set_server(void) { return rk_xics_set_server(XICS, server_number(62), holding(UINT64_C(0xffff0000)), 8); }
+static int64_t get_source(void) { return rk_xics_get_source(XICS, source_number(62), value, 8); }
+static int64_t get_server(void) { return rk_xics_get_server(XICS, server_number(62), value, 8); }
+static int64_t deliverable(void) { return rk_xics_deliverable(XICS, source_number(62)); }
+static int64_t plain_deliverables(void) { return plain_xics_deliverable(XICS, source_number(62)); }
 static int64_t plain_lines(void) { return plain_irq_line(STATE, 0, 40, 1); }
 static int64_t plain_looks(void) { return plain_lookup(STATE, 8, 0); }
 static int64_t plain_saves(void) { return plain_save(STATE, memory, memory_len); }
@@ -125,6 +138,15 @@ static const struct way library_ways[] = {
     {"rk_its_save", save},
     {"rk_its_restore", restore},
     {"rk_its_explain", explain}, {"rk_its_explain", explain_fault},
+    {"rk_xics_len", xics_len},
+    {"rk_xics_setup", xics_setup},
+    {"rk_xics_add_server", add_server},
+    {"rk_xics_add_source", add_source},
+    {"rk_xics_set_source", set_source},
+    {"rk_xics_set_server", set_server},
+    {"rk_xics_get_source", get_source},
+    {"rk_xics_get_server", get_server},
+    {"rk_xics_deliverable", deliverable},
 };
 
 static const struct way plain_ways[] = {
@@ -133,6 +155,7 @@ static const struct way plain_ways[] = {
     {"plain_save", plain_saves},
     {"plain_restore", plain_restores},
     {"plain_explain", plain_explains},
+    {"plain_xics_deliverable", plain_deliverables},
 };
 
 /* ---- the painted stack */
@@ -184,6 +207,7 @@ static size_t depth_on(int64_t (*make)(void), const struct guest *g)
     size_t deepest = 0;
     for (int colour = 0; colour < 2; colour++) {
         memcpy(state, g->state, STATE_BYTES);
+        memcpy(xics, roomy_xics, XICS_BYTES);
         memory = g->memory;
         memory_len = g->memory_len;
         deepest = larger(deepest, painted_depth(make, colour == 0 ? 0xa5 : 0x5a));
@@ -208,14 +232,14 @@ static void save_all(void)
         need(rk_its_save(guests[i].state, STATE_BYTES, guests[i].memory, guests[i].memory_len) == 0, "a guest could not be saved");
 }
 
-/* of one call, or of all where `call` is null */
+/* of the calls whose names begin so, or of all where `call` is null */
 static struct depth deepest_of(const struct way *ways, size_t count, const char *call)
 {
     struct depth most = {"none", 0};
     map_stack();
     save_all();
     for (size_t i = 0; i < count; i++) {
-        if (call != NULL && strcmp(call, ways[i].call) != 0)
+        if (call != NULL && strncmp(call, ways[i].call, strlen(call)) != 0)
             continue;
         size_t bytes = depth_of(ways[i].make);
         if (bytes > most.bytes)
@@ -236,7 +260,7 @@ enum { LIBRARY_WAYS = sizeof library_ways / sizeof library_ways[0], PLAIN_WAYS =
 
 struct depth library_depth(void)
 {
-    need(names_in(library_ways, LIBRARY_WAYS) == 28, "not every call is made on a painted stack");
+    need(names_in(library_ways, LIBRARY_WAYS) == 37, "not every call is made on a painted stack");
     return deepest_of(library_ways, LIBRARY_WAYS, NULL);
 }
 

@@ -13,7 +13,7 @@ struct depth {
 struct depth library_depth(void);
 struct depth plain_depth(void);
 
-/* the same of one call */
+/* the same of the calls whose names begin so */
 size_t library_depth_of(const char *call);
 size_t plain_depth_of(const char *call);
 

@@ -1,6 +1,7 @@
 #include "box.h"
 
 #include "facts.h"
+#include "numbers.h"
 #include "ritikancha.h"
 
 #include <stdlib.h>
@@ -15,20 +16,6 @@ enum { SHARED_BANKS = IRQ_COUNT / 32 };
 /* The guest's data, all over its memory: no byte of it is 0, so a zero that a save writes outside the tables is seen. */
 enum { DATA = 0xA7 };
 
-static void put(uint8_t *bytes, size_t width, uint64_t number)
-{
-    for (size_t i = 0; i < width; i++)
-        bytes[i] = (uint8_t)(number >> (8 * i));
-}
-
-static uint64_t number_of(const uint8_t *bytes, size_t width)
-{
-    uint64_t number = 0;
-    for (size_t i = 0; i < width; i++)
-        number |= (uint64_t)bytes[i] << (8 * i);
-    return number;
-}
-
 /* A bank's or frame's attribute: the VCPU's affinity in bits 63:32 and the rest below. */
 static uint64_t of_vcpu(unsigned vcpu, uint64_t rest)
 {
@@ -38,14 +25,14 @@ static uint64_t of_vcpu(unsigned vcpu, uint64_t rest)
 static void vgic_set(struct box *box, uint64_t group, uint64_t attribute, size_t width, uint64_t number)
 {
     uint8_t value[8];
-    put(value, width, number);
+    put_number(value, width, number);
     answers(rk_vgic_set(box->state, box->state_len, group, attribute, value, width), 0, "an attribute is set");
 }
 
 static uint64_t vgic_get(const struct box *box, uint64_t group, uint64_t attribute, size_t width, uint64_t lent)
 {
     uint8_t value[8];
-    put(value, width, lent);
+    put_number(value, width, lent);
     answers(rk_vgic_get(box->state, box->state_len, group, attribute, value, width), 0, "an attribute is read");
     return number_of(value, width);
 }
@@ -53,7 +40,7 @@ static uint64_t vgic_get(const struct box *box, uint64_t group, uint64_t attribu
 static void its_set(struct box *box, uint64_t group, uint64_t attribute, size_t width, uint64_t number)
 {
     uint8_t value[8];
-    put(value, width, number);
+    put_number(value, width, number);
     answers(rk_its_set(box->state, box->state_len, group, attribute, value, width), 0, "an ITS attribute is set");
 }
 

@@ -24,8 +24,8 @@ bool answers(int64_t answer, int64_t want, const char *what)
     return fact(answer == want, what);
 }
 
-int close_facts(void)
+int close_facts(const char *name)
 {
-    printf("demo: %u passed, %u failed\n", passed, failed);
+    printf("%s: %u passed, %u failed\n", name, passed, failed);
     return failed == 0 && passed > 0 ? 0 : 1;
 }

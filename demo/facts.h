@@ -1,4 +1,4 @@
-/* Facts that the demo checks: each is counted, and one that does not hold is printed. */
+/* Facts that the programs of the demo check: each is counted, and one that does not hold is printed. */
 #ifndef FACTS_H
 #define FACTS_H
 
@@ -11,7 +11,7 @@ bool fact(bool holds, const char *what);
 /* The fact that a call answered this number. */
 bool answers(int64_t answer, int64_t want, const char *what);
 
-/* Prints the last line, 'demo: N passed, M failed', and gives the exit status. */
-int close_facts(void);
+/* Prints the last line of a program, 'NAME: N passed, M failed', and gives the exit status. */
+int close_facts(const char *name);
 
 #endif

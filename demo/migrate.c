@@ -227,7 +227,7 @@ static void refuse_damage(struct box *new)
 int main(void)
 {
     if (!fact(rk_state_len() > 0, "a state has a length"))
-        return close_facts();
+        return close_facts("migrate");
     check_checksum();
     struct box old = open_box();
     struct box new = open_box();
@@ -242,5 +242,5 @@ int main(void)
     flip_every_bit(&old, &new);
     close_box(&old);
     close_box(&new);
-    return close_facts();
+    return close_facts("migrate");
 }

@@ -1,10 +1,15 @@
-/* Ritikancha: one guest's virtual GICv3 and ITS, kept in bytes that the caller lends.
+/* Ritikancha: a guest's virtual interrupt controller, kept in bytes that the caller lends: its GICv3 and ITS, or the words of its XICS.
  *
  * A § is a paragraph of docs/DEFINITION.md, which says the same at more length.
  *
+ * TWO KINDS OF LENT STATE. A state (§1.1, §1.2) is one guest with one GICv3 and one ITS, on an Arm box. An XICS (§14.1, §14.2) is the
+ * registered sources and servers of one guest, with a word for each, on a POWER box. Neither knows of the other: no call takes both, their
+ * lengths are two numbers, and the calls on an XICS are the nine whose names begin with rk_xics_, at the end. What is said below of a state
+ * under THE STATE, LENT BYTES and NULL holds of an XICS too, with rk_xics_len for rk_state_len.
+ *
  * ANSWERS (§2.1 to §2.4). Every call answers an int64_t: 0 or more where it is done, a negated RK_E.. number where it is refused. A call
- * that is done answers 0 unless its comment says that it answers a number. A refused call changes no byte: not of the state, not of the
- * lent value, not of the lent memory.
+ * that is done answers 0 unless its comment says that it answers a number. A refused call changes no byte: not of the state or the XICS,
+ * not of the lent value, not of the lent memory.
  *
  * ORDER OF REFUSALS (§2.5). Each call lists its refusals in the order in which they are tested; the first that applies is the answer.
  * Every call that takes a state, but for rk_setup, begins with these two (§1.3), before even an unknown name is seen; they are not
@@ -12,6 +17,7 @@
  *   -RK_EFAULT  state_len is not rk_state_len()
  *   -RK_EINVAL  the state's bytes break a rule (§1.8); the bytes that rk_setup and the calls after it leave never do. Bytes that were never
  *               set up, all zero for example, do break one
+ * A call that takes an XICS begins with two tests of the same kind (§14.3).
  *
  * THE STATE (§1.2, §1.7). A caller may copy a state, keep several, and lend a copy: it is plain bytes, with no pointer in them. Its layout and
  * its length may change with the version of the library, so ask rk_state_len, and carry a guest from one version to another by the
@@ -33,9 +39,10 @@
  *
  * STACK. Measured on x86-64, not proved: a mapping command, rk_its_place and RESET take up to 74 KiB of stack, rk_its_lookup 46, other
  * calls that write the state 31, calls that read it 14, rk_its_restore 12 and rk_its_explain no more than that, rk_setup 10, rk_its_save
- * less than 1.
+ * and the calls on an XICS less than 1.
  *
- * LIMITS (§1.6). 64 VCPUs and 32 redistributor regions; 16 collections, 32 devices, 1,024 events over all devices. Not here: §1.1.
+ * LIMITS (§1.6). 64 VCPUs and 32 redistributor regions; 16 collections, 32 devices, 1,024 events over all devices. Not here: §1.1. Of an
+ * XICS: 64 servers and 64 sources (§14.1).
  */
 #ifndef RITIKANCHA_H
 #define RITIKANCHA_H
@@ -52,9 +59,9 @@ extern "C" {
 #define RK_ENXIO 6   /* a group, attribute or offset that is not known; a guest that is not ready */
 #define RK_E2BIG 7   /* a frame's end is above 2^p */
 #define RK_ENOMEM 12 /* one over a limit */
-#define RK_EFAULT 14 /* a lent state, value or memory of another length; an area that is not inside memory as a whole */
+#define RK_EFAULT 14 /* a lent state, XICS, value or memory of another length; an area that is not inside memory as a whole */
 #define RK_EBUSY 16  /* the guest runs, or it is fixed already */
-#define RK_EEXIST 17 /* set or mapped before */
+#define RK_EEXIST 17 /* set, mapped or registered before */
 #define RK_ENODEV 19 /* VGIC INIT without a VCPU; in the ITS's group 0 an attribute that is not 4 */
 #define RK_EINVAL 22 /* all other faults */
 
@@ -442,6 +449,96 @@ int64_t rk_its_restore(uint8_t *state, size_t state_len, const uint8_t *memory, 
  * first is that of the entry that is read first, and at one entry the order is that of rk_its_restore's list (§13.9).
  */
 int64_t rk_its_explain(const uint8_t *state, size_t state_len, const uint8_t *memory, size_t memory_len);
+
+/* ---- XICS words, for POWER boxes ----
+ *
+ * An XICS holds the interrupt sources and the servers of one guest that are registered (§14.1): at most 64 of each, each with a number and a
+ * word of 64 bits. A source's number is below 2^20, a server's below 2^32; 0 is a number too. Each kind has its own 64 places and its own
+ * numbers: a source and a server may have the same number. Nothing unregisters; rk_xics_setup begins anew. No call lists what is
+ * registered, and none delivers an interrupt: a caller keeps the numbers that it registered, and to move a guest it reads every word,
+ * registers the same numbers on the other box, servers first, and sets the words there (demo/xics.c).
+ *
+ * Every call that takes an XICS, but for rk_xics_setup, begins with these two (§14.3); they are not repeated below:
+ *   -RK_EFAULT  xics_len is not rk_xics_len()
+ *   -RK_EINVAL  the XICS's bytes break a rule (§14.12); the bytes that rk_xics_setup and the calls after it leave never do. Bytes that are
+ *               all zero break none: they are an XICS with nothing registered
+ *
+ * A word is lent and handed back as a value of 8 bytes, little endian (§2.8):
+ *   source  destination [31:0], which is a server's number; priority [39:32]; level 40; masked 41; pending 42; all above is 0 (§14.5)
+ *   server  current priority [63:56]; source number [55:32]; IPI priority [31:24]; pending priority [23:16]; not used [15:0] (§14.6)
+ * Of priorities 0 is the highest and 255 the lowest.
+ */
+
+/* A word taken apart, the word being a uint64_t; so is each part. First of a source (§14.5), then of a server (§14.6). */
+#define RK_XICS_DESTINATION_OF(word) ((word) & 0xFFFFFFFF)
+#define RK_XICS_PRIORITY_OF(word) (((word) >> 32) & 0xFF)
+#define RK_XICS_LEVEL_OF(word) (((word) >> 40) & 1)
+#define RK_XICS_MASKED_OF(word) (((word) >> 41) & 1)
+#define RK_XICS_PENDING_OF(word) (((word) >> 42) & 1)
+#define RK_XICS_PENDING_PRIORITY_OF(word) (((word) >> 16) & 0xFF)
+#define RK_XICS_IPI_PRIORITY_OF(word) (((word) >> 24) & 0xFF)
+#define RK_XICS_SOURCE_OF(word) (((word) >> 32) & 0xFFFFFF)
+#define RK_XICS_CURRENT_OF(word) (((word) >> 56) & 0xFF)
+
+/* Answers the length of an XICS in bytes: the same number at every call (§14.2). */
+int64_t rk_xics_len(void);
+
+/* Makes an XICS with no source and no server (§14.4). What its bytes held before does not matter.
+ *   -RK_EFAULT  xics_len is not rk_xics_len()
+ */
+int64_t rk_xics_setup(uint8_t *xics, size_t xics_len);
+
+/* Registers a server (§14.7). Its word is 0x00000000FFFF0000: no interrupt and no IPI pending, both priorities being 255, and current
+ * priority 0, so that nothing is deliverable to it until its word is set.
+ *   -RK_EINVAL  server is 2^32 or more
+ *   -RK_EEXIST  the server is registered (with 64 servers too)
+ *   -RK_ENOMEM  a 65th server
+ */
+int64_t rk_xics_add_server(uint8_t *xics, size_t xics_len, uint64_t server);
+
+/* Registers a source with a server as its destination (§14.8). Its word is 0x000002FF00000000 + server: masked, priority 255.
+ *   -RK_EINVAL  source is 2^20 or more, or server is 2^32 or more
+ *   -RK_EEXIST  the source is registered, whatever the server is
+ *   -RK_ENOENT  the server is not registered (with 64 sources too)
+ *   -RK_ENOMEM  a 65th source
+ */
+int64_t rk_xics_add_source(uint8_t *xics, size_t xics_len, uint64_t source, uint64_t server);
+
+/* Sets the word of the source with this number (§14.9); the value is only read. The word is the value as it is, level and pending too; a
+ * source's destination may become any server that is registered.
+ *   -RK_EFAULT  value_len is not 8
+ *   -RK_ENOENT  no such source; a number that no source can have too
+ *   -RK_EINVAL  a bit above 42 is set, or the destination is no registered server, masked or not and at every priority
+ */
+int64_t rk_xics_set_source(uint8_t *xics, size_t xics_len, uint64_t number, const uint8_t *value, size_t value_len);
+
+/* Sets the word of the server with this number (§14.10); the value is only read. The word is the value with bits [15:0] made 0: whatever
+ * stands there is no fault and does not come back. A source number other than 0 need be neither registered nor below 2^20.
+ *   -RK_EFAULT  value_len is not 8
+ *   -RK_ENOENT  no such server; a number that no server can have too
+ *   -RK_EINVAL  the source number is 0 and the pending priority is not 255, or the pending priority is 255 and the source number is not 0
+ */
+int64_t rk_xics_set_server(uint8_t *xics, size_t xics_len, uint64_t number, const uint8_t *value, size_t value_len);
+
+/* Fills the value with the word of the source with this number (§14.11); success answers 0. The XICS is only read.
+ *   -RK_EFAULT  value_len is not 8
+ *   -RK_ENOENT  no such source; a number that no source can have too
+ */
+int64_t rk_xics_get_source(const uint8_t *xics, size_t xics_len, uint64_t number, uint8_t *value, size_t value_len);
+
+/* Fills the value with the word of the server with this number (§14.11); success answers 0. The XICS is only read.
+ *   -RK_EFAULT  value_len is not 8
+ *   -RK_ENOENT  no such server; a number that no server can have too
+ */
+int64_t rk_xics_get_server(const uint8_t *xics, size_t xics_len, uint64_t number, uint8_t *value, size_t value_len);
+
+/* Answers 1 if the source is deliverable and 0 if not (§14.11, §14.16): it is if its word has pending 1 and masked 0, and its priority is
+ * smaller than the current priority that its destination's server has at this call. Equal is not smaller: priority 255 never is, and to a
+ * server whose current priority is 0 nothing is deliverable. No other field matters: not the level, not what the server has pending. The
+ * XICS is only read.
+ *   -RK_ENOENT  no such source; a number that no source can have too
+ */
+int64_t rk_xics_deliverable(const uint8_t *xics, size_t xics_len, uint64_t source);
 
 #ifdef __cplusplus
 }

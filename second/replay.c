@@ -3,9 +3,9 @@
  *     replay TRACE [NAME]
  *
  * `second trace FILE` writes a trace; src/trace.rs tells its bytes. Of each call are compared: the answer and the lent bytes with what the
- * model expects, the state with the checksum of the one that the library left when the trace was written, and margins around state and
- * lent bytes, which nobody may write. The last line is 'NAME: N passed, M failed', one count for each call and one for the length of a
- * state (docs/DEFINITION.md, §1.2); the exit status is 0 only if all passed and the trace was whole.
+ * model expects, the state or the XICS with the checksum of the one that the library left when the trace was written, and margins around
+ * these and the lent bytes, which nobody may write. The last line is 'NAME: N passed, M failed', one count for each call and one each for
+ * the lengths of a state and of an XICS (docs/DEFINITION.md, §1.2, §14.2); the exit status is 0 only if all passed and the trace was whole.
  */
 #include "ritikancha.h"
 
@@ -165,6 +165,7 @@ static uint64_t checksum(const struct area *area)
 
 /* ---- calls ---- */
 
+/* The state, or the XICS where the call takes one. */
 static struct area state;
 static struct area memories[MEMORIES];
 static struct area value;
@@ -183,9 +184,12 @@ static const struct {
     {"rk_its_map_collection", 2},     {"rk_its_unmap_collection", 1},   {"rk_its_map_event", 4},
     {"rk_its_discard", 2},            {"rk_its_move", 3},               {"rk_its_lookup", 2},
     {"rk_its_save", 0},               {"rk_its_restore", 0},            {"rk_its_explain", 0},
+    {"rk_xics_setup", 0},             {"rk_xics_add_server", 1},        {"rk_xics_add_source", 2},
+    {"rk_xics_set_source", 1},        {"rk_xics_set_server", 1},        {"rk_xics_get_source", 1},
+    {"rk_xics_get_server", 1},        {"rk_xics_deliverable", 1},
 };
 
-enum { KINDS = sizeof calls / sizeof calls[0], FIRST_ITS = 15 };
+enum { KINDS = sizeof calls / sizeof calls[0], FIRST_ITS = 15, FIRST_XICS = 27 };
 
 static int64_t vgic_call(unsigned kind, const uint64_t *n, struct area *lent)
 {
@@ -228,6 +232,29 @@ static int64_t its_call(unsigned kind, const uint64_t *n, struct area *lent)
     case 25: return rk_its_restore(s, len, content(lent), lent->len);
     default: return rk_its_explain(s, len, content(lent), lent->len);
     }
+}
+
+static int64_t xics_call(unsigned kind, const uint64_t *n, struct area *lent)
+{
+    uint8_t *x = content(&state);
+    size_t len = state.len;
+    switch (kind) {
+    case 27: return rk_xics_setup(x, len);
+    case 28: return rk_xics_add_server(x, len, n[0]);
+    case 29: return rk_xics_add_source(x, len, n[0], n[1]);
+    case 30: return rk_xics_set_source(x, len, n[0], content(lent), lent->len);
+    case 31: return rk_xics_set_server(x, len, n[0], content(lent), lent->len);
+    case 32: return rk_xics_get_source(x, len, n[0], content(lent), lent->len);
+    case 33: return rk_xics_get_server(x, len, n[0], content(lent), lent->len);
+    default: return rk_xics_deliverable(x, len, n[0]);
+    }
+}
+
+static int64_t any_call(unsigned kind, const uint64_t *n, struct area *lent)
+{
+    if (kind < FIRST_ITS)
+        return vgic_call(kind, n, lent);
+    return kind < FIRST_XICS ? its_call(kind, n, lent) : xics_call(kind, n, lent);
 }
 
 /* ---- records ---- */
@@ -275,7 +302,7 @@ static void compare(unsigned kind, int64_t answer, struct area *lent, struct are
     else if (memcmp(content(lent), content(wanted), wanted->len) != 0)
         differs(kind, "other lent bytes", answer, want);
     else if (checksum(&state) != sum)
-        differs(kind, "another state", answer, want);
+        differs(kind, kind < FIRST_XICS ? "another state" : "another XICS", answer, want);
     else if (!margins_stand(&state) || !margins_stand(lent))
         differs(kind, "bytes next to the lent ones were written", answer, want);
     else
@@ -294,8 +321,7 @@ static void make_call(void)
     struct area *lent = read_lent();
     resize(&wanted, lent->len);
     memcpy(content(&wanted), content(lent), lent->len);
-    int64_t answer = kind < FIRST_ITS ? vgic_call(kind, numbers, lent) : its_call(kind, numbers, lent);
-    compare(kind, answer, lent, &wanted);
+    compare(kind, any_call(kind, numbers, lent), lent, &wanted);
 }
 
 static void read_state(void)
@@ -319,7 +345,7 @@ static void read_end(uint64_t before)
         broken("something follows its end");
 }
 
-/* Reads records up to the end; the length of a state is the first comparison. */
+/* Reads records up to the end; the two lengths are the first comparisons. */
 static void replay(void)
 {
     uint64_t before = passed + failed;
@@ -334,15 +360,15 @@ static void replay(void)
     }
 }
 
-static void check_length(void)
+static void check_length(const char *what, int64_t answer)
 {
     uint64_t len = number();
-    if (rk_state_len() >= 0 && (uint64_t)rk_state_len() == len) {
+    if (answer >= 0 && (uint64_t)answer == len) {
         passed++;
         return;
     }
     failed++;
-    printf("difference: a state has %" PRId64 " bytes, expected %" PRIu64 "\n", rk_state_len(), len);
+    printf("difference: %s has %" PRId64 " bytes, expected %" PRIu64 "\n", what, answer, len);
 }
 
 static void read_file(const char *path)
@@ -371,9 +397,10 @@ int main(int argc, char **argv)
     if (argc == 3)
         name = argv[2];
     read_file(argv[1]);
-    if (memcmp(bytes_of(8), "RKTRACE1", 8) != 0)
+    if (memcmp(bytes_of(8), "RKTRACE2", 8) != 0)
         broken("it is no trace");
-    check_length();
+    check_length("a state", rk_state_len());
+    check_length("an XICS", rk_xics_len());
     replay();
     return close_count();
 }

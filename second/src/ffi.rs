@@ -1,6 +1,7 @@
 //! The library's C names, wrapped so that the rest of the program passes slices.
 
 use crate::call::{Call, Device};
+use crate::xics;
 
 mod names {
     type Bytes = *const u8;
@@ -23,6 +24,18 @@ mod names {
         pub fn rk_irq_activate(state: BytesMut, len: usize, vcpu: u64, intid: u64) -> i64;
         pub fn rk_irq_line(state: BytesMut, len: usize, vcpu: u64, intid: u64, level: u64) -> i64;
         pub fn rk_irq_trigger(state: BytesMut, len: usize, vcpu: u64, intid: u64, word: u32) -> i64;
+    }
+
+    extern "C" {
+        pub fn rk_xics_len() -> i64;
+        pub fn rk_xics_setup(xics: BytesMut, len: usize) -> i64;
+        pub fn rk_xics_add_server(xics: BytesMut, len: usize, server: u64) -> i64;
+        pub fn rk_xics_add_source(xics: BytesMut, len: usize, source: u64, server: u64) -> i64;
+        pub fn rk_xics_set_source(xics: BytesMut, len: usize, source: u64, value: Bytes, width: usize) -> i64;
+        pub fn rk_xics_set_server(xics: BytesMut, len: usize, server: u64, value: Bytes, width: usize) -> i64;
+        pub fn rk_xics_get_source(xics: Bytes, len: usize, source: u64, value: BytesMut, width: usize) -> i64;
+        pub fn rk_xics_get_server(xics: Bytes, len: usize, server: u64, value: BytesMut, width: usize) -> i64;
+        pub fn rk_xics_deliverable(xics: Bytes, len: usize, source: u64) -> i64;
     }
 
     #[cfg(feature = "its")]
@@ -57,6 +70,32 @@ mod names {
 pub fn state_len() -> i64 {
     // SAFETY: the call takes nothing.
     unsafe { names::rk_state_len() }
+}
+
+/// The length of an XICS.
+pub fn xics_len() -> i64 {
+    // SAFETY: the call takes nothing.
+    unsafe { names::rk_xics_len() }
+}
+
+/// Makes one call on the lent XICS and the lent value.
+pub fn xics_call(call: &xics::Call, xics: &mut [u8], value: &mut [u8]) -> i64 {
+    use xics::Call;
+    let (x, n) = (xics.as_mut_ptr(), xics.len());
+    let (v, width) = (value.as_mut_ptr(), value.len());
+    // SAFETY: pointer and length come from one slice each, borrowed for the whole call.
+    unsafe {
+        match *call {
+            Call::Setup => names::rk_xics_setup(x, n),
+            Call::AddServer { server } => names::rk_xics_add_server(x, n, server),
+            Call::AddSource { source, server } => names::rk_xics_add_source(x, n, source, server),
+            Call::SetSource { source } => names::rk_xics_set_source(x, n, source, v, width),
+            Call::SetServer { server } => names::rk_xics_set_server(x, n, server, v, width),
+            Call::GetSource { source } => names::rk_xics_get_source(x, n, source, v, width),
+            Call::GetServer { server } => names::rk_xics_get_server(x, n, server, v, width),
+            Call::Deliverable { source } => names::rk_xics_deliverable(x, n, source),
+        }
+    }
 }
 
 /// Makes one call on the lent state and the lent value or memory.

@@ -40,7 +40,7 @@ impl Guarded {
         &mut self.bytes[MARGIN..end]
     }
 
-    fn margins_stand(&self) -> bool {
+    pub fn margins_stand(&self) -> bool {
         let end = self.bytes.len() - MARGIN;
         self.bytes[..MARGIN].iter().chain(&self.bytes[end..]).all(|byte| *byte == MARGIN_BYTE)
     }

@@ -2,13 +2,14 @@
 //!
 //! What is expected of a call are the answer and the lent bytes of the model (of §1.3, where a state is not sound), and
 //! a checksum of the state that the library left: the model reads states, but makes none. Library and model must agree while a
-//! trace is written; a run with a difference leaves none.
+//! trace is written; a run with a difference leaves none. An XICS is noted as a state is, with the length that it has: which
+//! of the two is lent follows from the call.
 //!
 //! Calls are made on many copies of states and from many places, and a trace is the list of them in order: so it is kept once
 //! for the program, like a log, and notes nothing while none is open.
 //!
-//! The bytes: `RKTRACE1`, the length of a state, then records. Numbers are varints (7 bits a byte, lowest first) unless said
-//! otherwise.
+//! The bytes: `RKTRACE2`, the length of a state, the length of an XICS, then records. Numbers are varints (7 bits a byte, lowest
+//! first) unless said otherwise.
 //! `S` length, changes: the state becomes the last one, cut or filled with zeros to the length, with the changes made.
 //! `G` generator (8 bytes), length: memory 0 becomes what the generator of `rng.rs` fills.
 //! `C` kind (1 byte), numbers, lent bytes, answer (zigzag), changes made to the lent bytes, checksum of the state (8 bytes): a call.
@@ -18,6 +19,7 @@
 //! Changes are a count of runs; a run is the bytes passed over, 2 x length (+ 1 for one byte repeated) and its bytes.
 
 use crate::call::{Call, Device};
+use crate::xics;
 use std::cell::RefCell;
 use std::fs::File;
 use std::io::{BufWriter, Result, Write};
@@ -47,12 +49,13 @@ fn with(note: impl FnOnce(&mut Trace)) {
     });
 }
 
-pub fn open(path: &str, state_len: usize) -> Result<()> {
+pub fn open(path: &str, state_len: usize, xics_len: usize) -> Result<()> {
     let file = BufWriter::new(File::create(path)?);
     let (state, memories, lent) = Default::default();
     let mut trace = Trace { file, state, memories, lent, slot: 0, calls: 0, bytes: 0, result: Ok(()) };
-    trace.put(b"RKTRACE1");
+    trace.put(b"RKTRACE2");
     trace.number(state_len as u64);
+    trace.number(xics_len as u64);
     OPEN.with(|open| *open.borrow_mut() = Some(trace));
     Ok(())
 }
@@ -81,12 +84,12 @@ pub fn filled(generator: u64, memory: &[u8]) {
 
 /// A call is about to be made on this state with these lent bytes.
 pub fn asked(state: &[u8], call: &Call, lent: &[u8]) {
-    with(|trace| {
-        trace.note_state(state);
-        trace.put(b"C");
-        trace.note_call(call);
-        trace.note_lent(lent);
-    });
+    with(|trace| trace.note_asked(state, coded(call), lent));
+}
+
+/// A call is about to be made on this XICS with this value.
+pub fn asked_xics(xics: &[u8], call: &xics::Call, value: &[u8]) {
+    with(|trace| trace.note_asked(xics, coded_xics(call), value));
 }
 
 /// What is expected of it: the answer, the lent bytes, the state.
@@ -147,10 +150,11 @@ impl Trace {
         self.changes(&before, state);
     }
 
-    fn note_call(&mut self, call: &Call) {
-        let (kind, numbers) = coded(call);
-        self.put(&[kind]);
+    fn note_asked(&mut self, state: &[u8], (kind, numbers): (u8, Vec<u64>), lent: &[u8]) {
+        self.note_state(state);
+        self.put(&[b'C', kind]);
         numbers.into_iter().for_each(|number| self.number(number));
+        self.note_lent(lent);
     }
 
     fn note_lent(&mut self, lent: &[u8]) {
@@ -262,5 +266,20 @@ fn coded_its(call: &Call) -> (u8, Vec<u64>) {
         #[cfg(feature = "restore")]
         Call::Explain => (26, vec![]),
         _ => unreachable!("coded above"),
+    }
+}
+
+/// The same for the calls on an XICS.
+fn coded_xics(call: &xics::Call) -> (u8, Vec<u64>) {
+    use xics::Call;
+    match *call {
+        Call::Setup => (27, vec![]),
+        Call::AddServer { server } => (28, vec![server]),
+        Call::AddSource { source, server } => (29, vec![source, server]),
+        Call::SetSource { source } => (30, vec![source]),
+        Call::SetServer { server } => (31, vec![server]),
+        Call::GetSource { source } => (32, vec![source]),
+        Call::GetServer { server } => (33, vec![server]),
+        Call::Deliverable { source } => (34, vec![source]),
     }
 }

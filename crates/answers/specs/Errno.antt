@@ -20,7 +20,7 @@ e2big = 7
 abbrev pub enomem : ℕ
 enomem = 12
 
--- §2.2: EFAULT, a state, a value or a memory of a wrong length, or an area that is not inside memory
+-- §2.2: EFAULT, a state, an XICS, a value or a memory of a wrong length, or an area that is not inside memory
 abbrev pub efault : ℕ
 efault = 14
 
@@ -28,7 +28,7 @@ efault = 14
 abbrev pub ebusy : ℕ
 ebusy = 16
 
--- §2.2: EEXIST, set or mapped before
+-- §2.2: EEXIST, set, mapped or registered before
 abbrev pub eexist : ℕ
 eexist = 17
 

@@ -67,7 +67,8 @@ given r value =
     (record { answer = done 0; lent = bytesOf (length value) (r .number) })
     (refused value (r .errno))
 
--- §2.8: the number that a lent value stands for, little endian. No group has another width than 4 and 8, so no other is read.
+-- §2.8: the number that a lent value stands for, little endian. No group has another width than 4 and 8, and a word of an XICS has 8, so no
+-- other is read.
 unfoldable pub valueOf : List ℕ → ℕ
 valueOf value = choose (eqb (length value) 4 || eqb (length value) 8) (le value) 0
 

@@ -1,7 +1,6 @@
 pub mod Sizes
 pub mod Counts
 pub mod Stored
-pub mod Alike
 pub mod Round
 pub mod Typed
 pub mod InPlace

@@ -7,7 +7,7 @@ use lib.ListN.{length, take, drop, length-append, length-take}
 use lib.Seq.{take-add, drop-at, drop-append-le, take-append-add, length-take-le}
 use Rattle.words.specs.Words.{putAt}
 use Rattle.words.proofs.Laws.{length-putAt, putAt-two, drop-putAt-past}
-use Rattle.maplayout.proofs.Alike.{take-putAt-before}
+use Rattle.words.proofs.Alike.{take-putAt-before}
 
 -- two places that share no byte: the order does not matter
 module _ (s : List ℕ) (a : ℕ) (xs : List ℕ) (b : ℕ) (ys : List ℕ) (h : a + length xs ≤ b) (f : b + length ys ≤ length s) where

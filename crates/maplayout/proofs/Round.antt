@@ -24,7 +24,7 @@ use Rattle.mapping.specs.Mapped.{Mapped}
 use Rattle.mapping.specs.MapWords.{MapWords, DeviceWords, CollectionWords, EventWords}
 use Rattle.maplayout.specs.MapLayout.{deviceOf, deviceBytes, deviceWords, collectionOf, collectionBytes, collectionWords, eventOf, eventBytes, eventWords, countWords, countBytes, decodeMap, storedMap, mapCountsOk}
 use Rattle.maplayout.proofs.Sizes.{device-sized, collection-sized, event-sized, counts-sized}
-use Rattle.maplayout.proofs.Alike.{take-putAt-before, leAt-alike, rows-alike, drop-alike, leAt-alike-past}
+use Rattle.words.proofs.Alike.{take-putAt-before, leAt-alike, rows-alike, drop-alike, leAt-alike-past}
 
 -- number k of a run of numbers that nothing follows
 word-of : (n : ℕ) (ws : List ℕ) (k : ℕ) → All (λ w. w < 256 ^ n) ws → k < length ws → leAt (bytesAll (bytesOf n) ws) (k * n) n ≡ getD ws k 0

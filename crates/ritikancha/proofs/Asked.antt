@@ -28,6 +28,13 @@ use Rattle.state.specs.Sound.{sound}
 use Rattle.calls.specs.Call.{asks, looks, explains}
 use Rattle.calls.proofs.Answers.{ask-known}
 use Rattle.calls.proofs.Saving.{memory-small}
+use Rattle.xicswords.specs.Word.{destination, delivers}
+use Rattle.xicsrows.specs.XicsLayout.{server, source, table}
+use Rattle.xicsrows.specs.Registered.{registered, wordOf}
+use Rattle.xicsrules.specs.Sound.{soundXics}
+use Rattle.xics.specs.Faults.{wordFault}
+use Rattle.xics.specs.Calls.{asksWord, delivery, asksDelivery}
+use Rattle.xics.proofs.Passes.{word-small}
 
 pub bytes-from : (l : List ℕ) → ((k : ℕ) → getD l k 0 < 256) → Bytes l
 bytes-from [] h = none
@@ -100,3 +107,40 @@ explain-small s mem =
   where
     Small : Reading → Type 0
     Small r = r .errno < 4096
+
+-- the words of an XICS, and whether a source is deliverable
+pub word-asked : (t n width : ℕ) (s : List ℕ) → asksWord t n width s .errno < 4096
+unfolding asksWord
+word-asked t n width s =
+    chosen Small (eqb (length s) 2064)
+    (chosen Small (soundXics s)
+    (chosen Small (eqb (wordFault n width (table t s)) 0) (lit< tt) (word-small n width (table t s)))
+    (lit< tt))
+    (lit< tt)
+  where
+    Small : Reading → Type 0
+    Small r = r .errno < 4096
+
+pub delivery-asked : (n : ℕ) (s : List ℕ) → asksDelivery n s .errno < 4096
+unfolding asksDelivery
+delivery-asked n s =
+    chosen Small (eqb (length s) 2064)
+    (chosen Small (soundXics s) (chosen Small (registered n (table source s)) (lit< tt) (lit< tt)) (lit< tt))
+    (lit< tt)
+  where
+    Small : Reading → Type 0
+    Small r = r .errno < 4096
+
+pub delivery-number : (n : ℕ) (s : List ℕ) → asksDelivery n s .number < 2 ^ 63
+unfolding asksDelivery delivery
+delivery-number n s =
+    chosen Fits (eqb (length s) 2064)
+    (chosen Fits (soundXics s)
+    (chosen Fits (registered n (table source s))
+    (chosen (λ (k : ℕ). k < 2 ^ 63) (delivers (wordOf n (table source s)) (wordOf (destination (wordOf n (table source s))) (table server s))) (lit< tt) (lit< tt))
+    (lit< tt))
+    (lit< tt))
+    (lit< tt)
+  where
+    Fits : Reading → Type 0
+    Fits r = r .number < 2 ^ 63

@@ -1,10 +1,14 @@
-// The C interface. §10.1: every promise is one record over `step`, the definition that the claims are stated over: the answer, and the
-// state and the lent bytes at exit, read or written. For every input; none asks anything of the caller.
+// The C interface. §10.1, §14.13: every promise is one record over `step`, or over `xicsStep` for a call on an XICS, the definitions that the
+// claims are stated over: the answer, and the state and the lent bytes at exit, read or written. For every input; none asks anything of
+// the caller.
 use calls::Change;
 use calls::Command;
 use calls::Question;
+use xics::XicsChange;
+use xicsrows::Xics;
 ghost use mathlib.Core.List.{[]};
 ghost use Rattle.step.specs.Step.{step, Leaves, stateLen, setup, vcpuAdd, vcpusStart, vcpusStop, vgicSet, itsSet, vgicGet, itsGet, redistBase, irqPending, irqSetPending, irqClearPending, irqActivate, irqLine, irqTrigger, itsPlace, itsMapDevice, itsUnmapDevice, itsMapCollection, itsUnmapCollection, itsMapEvent, itsDiscard, itsMove, itsLookup, itsSave, itsRestore, itsExplain};
+ghost use Rattle.xics.specs.XicsStep.{xicsStep, xicsLen, xicsSetup, addServer, addSource, setSource, setServer, getSource, getServer, deliverable};
 
 // §1.2: the length of a guest's state in bytes.
 #[no_mangle]
@@ -243,4 +247,84 @@ pub extern "C" fn rk_its_explain(state: &[u8], memory: &[u8]) -> i64
     ensures { λ r. ⌜ Leaves (step itsExplain (now (state .entry)) (now (memory .entry))) r (now (state .exit)) (now (memory .exit)) ⌝ }
 {
     calls::tell(calls::explain(state, memory))
+}
+
+// §14.2: the length of an XICS in bytes.
+#[no_mangle]
+pub extern "C" fn rk_xics_len() -> i64
+    ensures { λ r. ⌜ Leaves (xicsStep xicsLen [] []) r [] [] ⌝ }
+{
+    2064
+}
+
+// §14.4: makes an XICS without a source or a server of any bytes of the right length.
+#[no_mangle]
+pub extern "C" fn rk_xics_setup(xics: &mut [u8]) -> i64
+    ensures { λ r. ⌜ Leaves (xicsStep xicsSetup (now (xics .entry)) []) r (now (xics .exit)) [] ⌝ }
+{
+    xics::set_up(xics)
+}
+
+// §14.7: registers a server.
+#[no_mangle]
+pub extern "C" fn rk_xics_add_server(xics: &mut [u8], server: u64) -> i64
+    ensures { λ r. ⌜ Leaves (xicsStep (addServer server) (now (xics .entry)) []) r (now (xics .exit)) [] ⌝ }
+{
+    xics::apply(xics, XicsChange::AddServer(server))
+}
+
+// §14.8: registers a source with a server.
+#[no_mangle]
+pub extern "C" fn rk_xics_add_source(xics: &mut [u8], source: u64, server: u64) -> i64
+    ensures { λ r. ⌜ Leaves (xicsStep (addSource source server) (now (xics .entry)) []) r (now (xics .exit)) [] ⌝ }
+{
+    xics::apply(xics, XicsChange::AddSource(source, server))
+}
+
+// §14.9: sets a source's word.
+#[no_mangle]
+pub extern "C" fn rk_xics_set_source(xics: &mut [u8], number: u64, value: &[u8]) -> i64
+    ensures { λ r. ⌜ Leaves (xicsStep (setSource number) (now (xics .entry)) (now (value .entry))) r (now (xics .exit)) (now (value .exit)) ⌝ }
+{
+    let width = value.len() as u64;
+    let word = calls::value_of(value);
+    xics::apply(xics, XicsChange::SetSource(number, width, word))
+}
+
+// §14.10: sets a server's word.
+#[no_mangle]
+pub extern "C" fn rk_xics_set_server(xics: &mut [u8], number: u64, value: &[u8]) -> i64
+    ensures { λ r. ⌜ Leaves (xicsStep (setServer number) (now (xics .entry)) (now (value .entry))) r (now (xics .exit)) (now (value .exit)) ⌝ }
+{
+    let width = value.len() as u64;
+    let word = calls::value_of(value);
+    xics::apply(xics, XicsChange::SetServer(number, width, word))
+}
+
+// §14.11: reads a source's word into the value.
+#[no_mangle]
+pub extern "C" fn rk_xics_get_source(xics: &[u8], number: u64, value: &mut [u8]) -> i64
+    ensures { λ r. ⌜ Leaves (xicsStep (getSource number) (now (xics .entry)) (now (value .entry))) r (now (xics .exit)) (now (value .exit)) ⌝ }
+{
+    let width = value.len() as u64;
+    let r = xics::ask_word(xics, Xics::SOURCE, number, width);
+    calls::give(value, r)
+}
+
+// §14.11: reads a server's word into the value.
+#[no_mangle]
+pub extern "C" fn rk_xics_get_server(xics: &[u8], number: u64, value: &mut [u8]) -> i64
+    ensures { λ r. ⌜ Leaves (xicsStep (getServer number) (now (xics .entry)) (now (value .entry))) r (now (xics .exit)) (now (value .exit)) ⌝ }
+{
+    let width = value.len() as u64;
+    let r = xics::ask_word(xics, Xics::SERVER, number, width);
+    calls::give(value, r)
+}
+
+// §14.11: whether a source is deliverable.
+#[no_mangle]
+pub extern "C" fn rk_xics_deliverable(xics: &[u8], source: u64) -> i64
+    ensures { λ r. ⌜ Leaves (xicsStep (deliverable source) (now (xics .entry)) []) r (now (xics .exit)) [] ⌝ }
+{
+    calls::tell(xics::ask_delivery(xics, source))
 }

@@ -1,4 +1,5 @@
--- §10.1: one total definition of every public call; each exported promise says that the call leaves what is said here.
+-- §10.1: one total definition of every public call on a state; the promise of each of these exports says that the call leaves what is said
+-- here. The calls on an XICS have theirs in crates/xics (§14.13).
 use Prim.Native.Nat.{ℕ}
 use mathlib.Core.Path.{_≡_}
 use mathlib.Core.List.{List}
@@ -10,7 +11,7 @@ use Rattle.calls.specs.declared.Question.the-variants.{VgicGet, ItsGet, RedistB
 use Rattle.calls.specs.declared.Command.the-variants.{Place, MapDevice, UnmapDevice, MapCollection, UnmapCollection, MapEvent, Discard, Move}
 use Rattle.calls.specs.Call.{Reply, changes, asks, setUp, valueOf, given, answered, commands, itsSets, looks, saves, restores, explains}
 
--- §10.1: a call: one for each function of the header, with its numbers in their order
+-- §10.1: a call: one for each function of the header on a state, with its numbers in their order
 pub data Call : Type 0 where
   stateLen vcpusStart vcpusStop : Call
   setup : ℕ → ℕ → ℕ → Call

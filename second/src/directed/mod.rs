@@ -19,6 +19,7 @@ mod restore;
 mod save;
 #[cfg(feature = "its")]
 mod sound;
+pub mod xics;
 
 use crate::call::{Call, Device};
 use crate::model::Model;

@@ -1,0 +1,14 @@
+pub mod Guard
+pub mod Any
+pub mod Kept
+pub mod Fresh
+pub mod Changes
+pub mod Stays
+pub mod Words
+pub mod Others
+pub mod Found
+pub mod Accepts
+pub mod First
+pub mod Delivery
+pub mod Rules
+pub mod Proved

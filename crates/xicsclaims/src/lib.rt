@@ -1,0 +1,1 @@
+// Claims about the calls on an XICS; no code.

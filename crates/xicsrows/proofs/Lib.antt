@@ -1,0 +1,5 @@
+pub mod InPlace
+pub mod Search
+pub mod Numbers
+pub mod Written
+pub mod Edited

@@ -1,0 +1,2 @@
+pub mod XicsLayout
+pub mod Registered

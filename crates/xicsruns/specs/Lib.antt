@@ -1,0 +1,6 @@
+pub mod XicsRun
+pub mod Registering
+pub mod Broken
+pub mod Words
+pub mod Delivering
+pub mod XicsRuns
