@@ -150,6 +150,22 @@ static void lend_bank(const struct guest *g, unsigned bits)
     lend_state(state);
 }
 
+/* INTIDs on both sides of 1,020, with the trigger bit of each interrupt of their bank set: up to 1,019 a rise is latched, from there on no
+ * byte changes. */
+static void check_last_lines(void)
+{
+    uint8_t state[STATE_BYTES];
+    memcpy(state, guests[FULL].state, STATE_BYTES);
+    put32(state + AT_LAST_BANK + 8, 0x0fffffff);
+    for (uint64_t intid = 1016; intid < 1024; intid++) {
+        const struct call up = {.kind = LINE, .b = intid, .c = 1}, down = {.kind = LINE, .b = intid, .c = 0};
+        lend_state(state);
+        both_answer(0, &up, "line up near INTID 1,020");
+        need((memcmp(library.state, state, STATE_BYTES) == 0) == (intid > 1019), "another INTID than 1,020 is the first that is none");
+        both_answer(0, &down, "line down near INTID 1,020");
+    }
+}
+
 static void check_lines(const struct guest *g)
 {
     static const struct call up = {.kind = LINE, .b = 40, .c = 1}, down = {.kind = LINE, .b = 40, .c = 0};
@@ -178,7 +194,11 @@ static const struct refused {
     {"line of a VCPU's own", SOME, 0, {.kind = LINE, .a = 3, .b = 16, .c = 1}},
     {"line up above the interrupt count", SOME, 0, {.kind = LINE, .b = 256, .c = 1}},
     {"line down above the interrupt count", SOME, 0, {.kind = LINE, .b = 256, .c = 0}},
-    {"line of the last interrupt", FULL, 0, {.kind = LINE, .b = 1023, .c = 1}},
+    {"line of the last interrupt", FULL, 0, {.kind = LINE, .b = 1019, .c = 1}},
+    {"line of INTID 1,020", FULL, 0, {.kind = LINE, .b = 1020, .c = 1}},
+    {"line of INTID 1,020 of an unknown VCPU", FULL, -22, {.kind = LINE, .a = 64, .b = 1020, .c = 1}},
+    {"line of INTID 1,023 to level 2", FULL, -22, {.kind = LINE, .b = 1023, .c = 2}},
+    {"line of INTID 1,023 before INIT", READY, -6, {.kind = LINE, .b = 1023, .c = 1}},
     {"lookup before ITS INIT", SMALL, -6, {.kind = LOOKUP, .a = 8}},
     {"lookup of no device", SOME, -2, {.kind = LOOKUP, .a = 9}},
     {"lookup of no event", SOME, -2, {.kind = LOOKUP, .a = 8, .b = 10}},
@@ -221,6 +241,7 @@ static void check_running(void)
 #define EVENT(i) (AT_MAPPING + AT_EVENTS + (i) * EVENT_BYTES)
 #define REGION(i) (AT_REGIONS + (i) * REGION_BYTES)
 #define VCPU(i) (AT_VCPUS + (i) * VCPU_BYTES)
+#define BANK(i) (AT_BANKS + (i) * BANK_BYTES)
 
 /* `bytes` bytes of the state replaced; beyond the eighth they are 0 */
 struct edit {
@@ -269,6 +290,17 @@ static const struct damage {
     {"an SGI that is level", FULL, {{VCPU(63) + 12, 2, 0x7fff}}},
     {"an SGI's level", FULL, {{VCPU(63) + 8, 2, 0x8000}}},
     {"a redistributor's STATUSR", FULL, {{VCPU(63) + 16, 4, 16}}},
+    {"a latch of INTID 1,020", FULL, {{AT_LAST_BANK, 4, 0x10000000}}},
+    {"a level of INTID 1,021", FULL, {{AT_LAST_BANK + 4, 4, 0x20000000}}},
+    {"a trigger of INTID 1,023", FULL, {{AT_LAST_BANK + 8, 4, 0x80000000}}},
+    {"a VCPU's latch before INIT", READY, {{VCPU(0) + 4, 4, 1}}},
+    {"a VCPU's level before INIT", READY, {{VCPU(0) + 8, 4, 0x10000}}},
+    {"a VCPU's edge before INIT", READY, {{VCPU(0) + 12, 4, 0x8000ffff}}},
+    {"a redistributor's STATUSR before INIT", READY, {{VCPU(0) + 16, 4, 1}}},
+    {"a shared latch before INIT", READY, {{BANK(0), 4, 1}}},
+    {"a shared level before INIT", READY, {{BANK(6) + 4, 4, 0x80000000}}},
+    {"a shared edge before INIT", READY, {{BANK(6) + 8, 4, 0x80000000}}},
+    {"STATUSR before INIT", READY, {{AT_STATUS, 8, 1}}},
     {"ITS INIT without its base", FULL, {{AT_ITS, 16, 0}}},
     {"a table off a page", FULL, {{AT_COLLECTION_TABLE + 8, 8, MEMORY_START + 0x8010}}},
     {"a table of 129 pages", FULL, {{AT_COLLECTION_TABLE + 8, 8, MEMORY_START + 0x8000}, {AT_COLLECTION_TABLE + 16, 8, 129}}},
@@ -327,7 +359,7 @@ static unsigned long sweep_state(const struct guest *g, uint8_t change)
     for (size_t i = 0; i < STATE_BYTES; i++) {
         uint8_t was = g->state[i];
         library.state[i] = plain.state[i] = was ^ change;
-        if (both(&up, "a state with one byte changed") == 0) {
+        if (both(&up, "a state with one byte changed") != -22) {
             sound++;
             lend_state(g->state);
         }
@@ -506,9 +538,11 @@ unsigned long check_agreement(void)
     check_lines(&guests[SMALL]);
     check_lines(&guests[SOME]);
     check_lines(&guests[FULL]);
+    check_last_lines();
     check_refused();
     check_running();
     check_damages();
+    check_sweeps(&guests[READY]);
     check_sweeps(&guests[SOME]);
     check_sweeps(&guests[FULL]);
     check_restores();

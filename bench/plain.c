@@ -20,12 +20,12 @@ static bool its_ready(const uint8_t *state)
 
 /* ---- one bank call */
 
-/* the bank's three words: a VCPU's own, a shared one, or null at or above the interrupt count */
+/* the bank's three words: a VCPU's own, a shared one, or null at or above the interrupt count and from INTID 1,020 on */
 static uint8_t *bank_of(uint8_t *state, uint64_t vcpu, uint64_t intid)
 {
     if (intid < 32)
         return state + AT_VCPUS + vcpu * VCPU_BYTES + 4;
-    if (intid >= get64(state + AT_IRQS))
+    if (intid >= get64(state + AT_IRQS) || intid > 1019)
         return NULL;
     return state + AT_BANKS + (intid / 32 - 1) * BANK_BYTES;
 }

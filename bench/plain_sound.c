@@ -108,6 +108,32 @@ static bool vcpus_ok(const uint8_t *s)
     return true;
 }
 
+/* INTIDs 1,020 to 1,023 have no bits (§1.15). */
+static bool last_bank_ok(const uint8_t *s)
+{
+    const uint8_t *bank = s + AT_LAST_BANK;
+    return get64(s + AT_IRQS) != 1024 || (get32(bank) | get32(bank + 4) | get32(bank + 8)) < UINT64_C(1) << 28;
+}
+
+/* Before INIT every bank is fresh and every STATUSR 0 (§1.16). A VCPU's trigger and STATUSR are read as one word. */
+static bool early_ok(const uint8_t *s)
+{
+    const uint8_t *vcpus = s + AT_VCPUS, *banks = s + AT_BANKS;
+    size_t vcpu_bytes = (size_t)get64(s + AT_VCPU_COUNT) * VCPU_BYTES;
+    size_t bank_bytes = (size_t)(get64(s + AT_IRQS) / 32 - 1) * BANK_BYTES;
+    uint64_t used = get64(s + AT_STATUS);
+    for (size_t i = 0; i < vcpu_bytes; i += VCPU_BYTES)
+        used |= get64(vcpus + i + 4) | (get64(vcpus + i + 12) ^ 0xffff);
+    for (size_t i = 0; i < bank_bytes; i += BANK_BYTES)
+        used |= get64(banks + i) | get32(banks + i + 8);
+    return used == 0;
+}
+
+static bool banks_ok(const uint8_t *s)
+{
+    return last_bank_ok(s) && (get64(s + AT_INIT) == 1 || early_ok(s));
+}
+
 static bool table_ok(const uint8_t *s, const uint8_t *table)
 {
     uint64_t start = get64(table + 8);
@@ -203,7 +229,7 @@ bool plain_sound(const uint8_t *s)
 {
     struct areas tables;
     tables.count = 0;
-    if (!counts_ok(s) || !memory_ok(s) || !control_ok(s) || !frames_ok(s) || !vcpus_ok(s))
+    if (!counts_ok(s) || !memory_ok(s) || !control_ok(s) || !frames_ok(s) || !vcpus_ok(s) || !banks_ok(s))
         return false;
     return tables_ok(s, &tables) && mapping_ok(s, &tables);
 }

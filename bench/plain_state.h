@@ -36,6 +36,7 @@
 #define MAX_VCPUS 64
 #define AT_BANKS 1976
 #define BANK_BYTES 12
+#define AT_LAST_BANK (AT_BANKS + 30 * BANK_BYTES) /* from INTID 992 on; there with 1,024 interrupts */
 
 /* the mapping; offsets from its own first byte, since a restore builds one apart from the state */
 #define AT_MAPPING 2352

@@ -124,7 +124,7 @@ int64_t rk_vcpus_stop(uint8_t *state, size_t state_len);
  *
  * Group 1 (§4.10, §4.11), 4 bytes: a register of the distributor, by the offset in attribute bits 31:0; bits 63:32 are dropped.
  *   0x0010            STATUSR: the low 4 bits are stored, the others dropped (§4.14)
- *   0x204 to 0x27C    by 4: the latch word of INTIDs 32n to 32n + 31 at 0x200 + 4n, all 32 bits (§4.13)
+ *   0x204 to 0x27C    by 4: the latch word of INTIDs 32n to 32n + 31 at 0x200 + 4n, all 32 bits (§4.13); of 0x27C the low 28 (§4.17)
  *   0x200, 0x280 to 0x2FC  by 4: the write is ignored
  *
  * Group 3, attribute 0 (§3.14), 4 bytes: the interrupt count. The shared banks of the new count are fresh.
@@ -149,7 +149,7 @@ int64_t rk_vcpus_stop(uint8_t *state, size_t state_len);
  *   -RK_EINVAL  info not 0, or vINTID not divisible by 32
  *   -RK_EINVAL  vINTID 0 and no VCPU has the affinity (which is not looked at for any other vINTID)
  *
- * In groups 1 and 7, INTIDs at or above the interrupt count ignore writes: 0 (§4.9).
+ * In groups 1 and 7, INTIDs at or above the interrupt count ignore writes: 0 (§4.9). So do INTIDs 1,020 to 1,023 (§4.17).
  */
 int64_t rk_vgic_set(uint8_t *state, size_t state_len, uint64_t group, uint64_t attribute, const uint8_t *value, size_t value_len);
 
@@ -208,8 +208,8 @@ int64_t rk_its_set(uint8_t *state, size_t state_len, uint64_t group, uint64_t at
  *   -RK_EINVAL  info not 0, or vINTID not divisible by 32
  *   -RK_EINVAL  vINTID 0 and no VCPU has the affinity
  *
- * In groups 1 and 7, what is at or above the interrupt count reads 0. No attribute hands out trigger words: a caller that moves a
- * guest keeps what the guest wrote.
+ * In groups 1 and 7, what is at or above the interrupt count reads 0, and so do bits 31:28 of the words of INTIDs 992 on (§4.17): 0x27C of
+ * group 1, vINTID 992 of group 7. No attribute hands out trigger words: a caller that moves a guest keeps what the guest wrote.
  */
 int64_t rk_vgic_get(const uint8_t *state, size_t state_len, uint64_t group, uint64_t attribute, uint8_t *value, size_t value_len);
 
@@ -233,8 +233,9 @@ int64_t rk_redist_base(const uint8_t *state, size_t state_len, uint64_t vcpu);
  *
  * Each of these calls names a VCPU and an INTID (§4.1, §4.2, §4.8). INTIDs 0 to 31 are the VCPU's own, and no call on them changes what is
  * answered of another VCPU (§4.16); from 32 on they are shared, and which VCPU is named has no effect, though it must be there. INTIDs
- * from the interrupt count to 1,023 are no fault (§4.9): pending 0, and writes are ignored. SGIs (INTIDs 0 to 15) stay edge, with
- * level 0 (§4.3). All of them work while running.
+ * from the interrupt count to 1,023 are no fault (§4.9): pending 0, and writes are ignored. INTIDs 1,020 to 1,023 are special numbers of
+ * GICv3 and no interrupts (§4.17): with a count of 1,024 too they are pending 0, and a set, clear, activate or line of one is 0 and
+ * stores nothing. SGIs (INTIDs 0 to 15) stay edge, with level 0 (§4.3). All of these calls work while running.
  */
 
 /* Answers 1 if the interrupt is pending and 0 if not (§4.4): an edge interrupt by its latch, a level interrupt by its latch or its line.
@@ -269,8 +270,8 @@ int64_t rk_irq_activate(uint8_t *state, size_t state_len, uint64_t vcpu, uint64_
  */
 int64_t rk_irq_line(uint8_t *state, size_t state_len, uint64_t vcpu, uint64_t intid, uint64_t level);
 
-/* The guest writes the trigger word of the 32 interrupts that intid is one of (§4.7): bit set is edge, bit clear level. Latches and
- * levels stay, and so do the bits of SGIs.
+/* The guest writes the trigger word of the bank that intid is in (§4.7): bit set is edge, bit clear level. Latches and levels stay, and
+ * so do the bits of SGIs. Of the bank from INTID 992 on the low 28 bits are stored, also where intid is 1,020 to 1,023 (§4.17).
  *   -RK_ENXIO   before VGIC INIT
  *   -RK_EINVAL  vcpu not below the number of VCPUs, or intid above 1,023
  */

@@ -7,13 +7,19 @@ use crate::call::{Call, REFUSALS};
 use crate::ffi;
 #[cfg(feature = "restore")]
 use crate::model::readings;
-use crate::model::Model;
+use crate::model::{Guest, Model};
 use crate::random;
 
 pub trait Side {
     /// Makes the call; complaints about broken promises are added to the list.
     fn call(&mut self, call: &Call, lent: &mut [u8], complaints: &mut Vec<String>) -> i64;
+
+    /// All that the side holds now.
+    fn held(&self) -> Held;
 }
+
+/// The library's bytes, the model's guest: what one has not is empty.
+pub type Held = (Vec<u8>, Option<Guest>);
 
 /// Bytes with a margin on both sides, so that a write next to them is seen.
 #[derive(Clone)]
@@ -103,6 +109,10 @@ impl Side for Library {
         lent.copy_from_slice(value.content());
         answer
     }
+
+    fn held(&self) -> Held {
+        (self.state.content().to_vec(), None)
+    }
 }
 
 /// Both at once: answers what they agree on. A difference is a complaint.
@@ -124,6 +134,10 @@ impl Side for Both {
             }
         }
     }
+
+    fn held(&self) -> Held {
+        (self.library.held().0, self.model.held().1)
+    }
 }
 
 impl Side for Model {
@@ -137,5 +151,9 @@ impl Side for Model {
         let answer = Model::call(self, call, lent);
         around(call, answer, *self == state_before, *lent == *lent_before, complaints);
         answer
+    }
+
+    fn held(&self) -> Held {
+        (Vec::new(), self.guest.clone())
     }
 }

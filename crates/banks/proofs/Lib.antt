@@ -5,3 +5,4 @@ pub mod LatchBit
 pub mod Through
 pub mod Words
 pub mod Anchors
+pub mod Fits

@@ -46,3 +46,11 @@ unfoldable pub lined : ℕ → ℕ → Bank → Bank
 lined i level b =
     withLevel (putField (b .level) i 1 level)
     (choose (rises i level b) (raised i b) b)
+
+-- §4.17: the bank as it is stored where it has so many interrupts: of each word as many bits, from the lowest on
+unfoldable pub trimmed : ℕ → Bank → Bank
+trimmed bits b = record {
+  latch = getField (b .latch) 0 bits;
+  level = getField (b .level) 0 bits;
+  trigger = getField (b .trigger) 0 bits;
+}

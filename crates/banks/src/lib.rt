@@ -15,6 +15,7 @@ ghost use Rattle.banks.specs.Bank.{
   lowered,
   rises,
   lined,
+  trimmed,
 };
 
 // An edge interrupt is pending by its latch alone: what its line holds now is no news.
@@ -130,4 +131,16 @@ pub fn lined(b: Bank, i: u32, level: u64) -> Bank
         return with_level(raised(b, i), word);
     }
     with_level(b, word)
+}
+
+// What a bank of so many interrupts stores of its words (§4.17): the bits past them are 0 whatever was written there.
+pub fn trimmed(b: Bank, bits: u32) -> Bank
+    requires { ⌜ (1 ≤ bits) × (bits ≤ 32) ⌝ }
+    ensures { λ r. ⌜ r ≡ trimmed bits b ⌝ }
+{
+    Bank {
+        latch: field_get(b.latch, 0, bits),
+        level: field_get(b.level, 0, bits),
+        trigger: field_get(b.trigger, 0, bits),
+    }
 }

@@ -123,7 +123,7 @@ module _ (s mem : List ℕ) (h : Ready s mem) where
       described a (found k) q = rw (taken-mapping k q) (describes k .0 q)
 
 -- soundness along the list
-run-sound : (turns : List Turn) → All Given turns → (t : List ℕ) → Sound t → Sound (run turns t)
+pub run-sound : (turns : List Turn) → All Given turns → (t : List ℕ) → Sound t → Sound (run turns t)
 run-sound [] none t h = h
 run-sound (x ∷ xs) (more g gs) t h = run-sound xs gs (step (x .call) t (x .lent) .state) (sound-stays (x .call) t (x .lent) (g .passed) (g .bytes) h)
 

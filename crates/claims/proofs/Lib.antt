@@ -8,3 +8,4 @@ pub mod Apart
 pub mod Anchors
 pub mod Demand2
 pub mod Uses
+pub mod Special

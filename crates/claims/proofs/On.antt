@@ -16,10 +16,11 @@ use Rattle.maplayout.specs.MapLayout.{decodeMap}
 use Rattle.kept.specs.Good.{Good}
 use Rattle.calls.specs.declared.Change.{Change}
 use Rattle.calls.specs.declared.Command.{Command}
-use Rattle.calls.specs.Steps.{changeStep}
+use Rattle.calls.specs.declared.Question.{Question}
+use Rattle.calls.specs.Steps.{changeStep, askStep}
 use Rattle.calls.specs.Commands.{commandStep, lookupStep}
 use Rattle.state.specs.Sound.{Sound}
-use Rattle.calls.specs.Call.{settled, settledBox, changes, commands, looks}
+use Rattle.calls.specs.Call.{settled, settledBox, changes, asks, commands, looks}
 use Rattle.claims.proofs.Stored.{room, counts-of, stored-is, mapped-is, mapped-guest}
 
 module _ (s : List ℕ) (h : Sound s) where
@@ -30,6 +31,10 @@ module _ (s : List ℕ) (h : Sound s) where
   pub command-is : (c : Command) → commands c s ≡ settledBox s (commandStep c (decode s) (decodeMap s))
   unfolding commands
   command-is c = rw (eq-eqb (length s) size (h .long), h .rules)
+
+  pub ask-is : (q : Question) → asks q s ≡ askStep q (decode s)
+  unfolding asks
+  ask-is q = rw (eq-eqb (length s) size (h .long), h .rules)
 
   pub look-is : (device event : ℕ) → looks device event s ≡ lookupStep device event (decode s) (decodeMap s)
   unfolding looks

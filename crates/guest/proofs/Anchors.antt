@@ -1,14 +1,17 @@
--- The fresh guest (§1.5) and the new VCPU (§3.1), number by number. Assumes nothing.
+-- The fresh guest (§1.5) and the new VCPU (§3.1), number by number; which INTIDs are no interrupts (§4.17). Assumes nothing.
 use Prim.Native.Nat.{ℕ, zero, suc, _+_, _-_, _/_, _%_, _^_, _≤_, _<_}
 use native.Mathlib.Nat.{div-eq-of-lt, lt-of-lt-of-le}
 use native.Mathlib.Omega.{arith}
 use mathlib.Core.Path.{_≡_, refl, sym, ap, _∙_}
+use mathlib.Core.Bool.{Bool, true, false}
 use lib.ListN.{length, replicate}
 use lib.Pow.{ones-split, ones-lt, high, low, pow-mono}
-use lib.Dec.{lit<}
+use lib.Dec.{eqb, lit<}
+use borrow.Author.Tests.{eqb-true}
+use Rattle.lists.specs.Rows.{choose}
 use Rattle.lists.proofs.All.{All, none, more}
 use Rattle.guest.specs.declared.Bank.{Bank}
-use Rattle.guest.specs.Machine.{fresh, noVcpu}
+use Rattle.guest.specs.Machine.{fresh, noVcpu, bankBits}
 
 -- bit i of a word
 abbrev pub bitAt : ℕ → ℕ → ℕ
@@ -70,3 +73,33 @@ module _ (affinity : ℕ) where
   vcpu-level i h =
       let l : 65535 < 2 ^ i = lt-of-lt-of-le (lit< tt) (pow-mono h) in
       ap (λ (n : ℕ). n % 2) (div-eq-of-lt l)
+
+-- of the shared INTIDs, 32 to 1,023, those from 1,020 on are past the interrupts of their bank, and no other is
+module _ (intid : ℕ) (h : 32 ≤ intid) where
+  pub bits-past : 1020 ≤ intid → intid ≤ 1023 → bankBits (intid / 32 - 1) ≤ intid % 32
+  unfolding bankBits
+  bits-past l u = let e : intid / 32 - 1 ≡ 30 = omega arith in rw e (omega arith)
+
+  pub bits-below : intid < 1020 → intid % 32 < bankBits (intid / 32 - 1)
+  unfolding bankBits
+  bits-below l = by (eqb (intid / 32 - 1) 30) refl
+    where
+      by : (b : Bool) → eqb (intid / 32 - 1) 30 ≡ b → intid % 32 < choose b 28 32
+      by true e = omega (arith, eqb-true (intid / 32 - 1) 30 e)
+      by false e = omega arith
+
+pub bits-least : (j : ℕ) → 1 ≤ bankBits j
+unfolding bankBits
+bits-least j = by (eqb j 30)
+  where
+    by : (b : Bool) → 1 ≤ choose b 28 32
+    by true = omega arith
+    by false = omega arith
+
+pub bits-most : (j : ℕ) → bankBits j ≤ 32
+unfolding bankBits
+bits-most j = by (eqb j 30)
+  where
+    by : (b : Bool) → choose b 28 32 ≤ 32
+    by true = omega arith
+    by false = omega arith

@@ -5,6 +5,7 @@ use mathlib.Core.Bool.{Bool}
 use mathlib.Core.List.{List, []}
 use lib.ListN.{length, take, replicate}
 use lib.Dec.{eqb}
+use Rattle.lists.specs.Rows.{choose}
 use Rattle.guest.specs.declared.Memory.{Memory}
 use Rattle.guest.specs.declared.Control.{Control}
 use Rattle.guest.specs.declared.Frame.{Frame}
@@ -83,6 +84,11 @@ noRegion = record { base = 0; count = 0 }
 -- §4.2: how many shared banks an interrupt count has: one for each 32 INTIDs below it, but for the first 32
 abbrev pub sharedCount : ℕ → ℕ
 sharedCount irqs = irqs / 32 - 1
+
+-- §4.17: how many interrupts a shared bank has, by its row: the one from INTID 992 on, row 30, has 28, each other one 32. Its words have
+-- as many bits.
+unfoldable pub bankBits : ℕ → ℕ
+bankBits j = choose (eqb j 30) 28 32
 
 -- §1.10: a base that is not set is stored as 0
 abbrev pub unset : Frame

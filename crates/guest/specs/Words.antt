@@ -1,5 +1,5 @@
 -- Every number of a guest fits its place in the state's bytes.
-use Prim.Native.Nat.{_<_, _^_}
+use Prim.Native.Nat.{ℕ, _<_, _^_}
 use Rattle.lists.proofs.All.{All}
 use Rattle.guest.specs.declared.Memory.{Memory}
 use Rattle.guest.specs.declared.Control.{Control}
@@ -39,11 +39,15 @@ pub record RegionWords (r : Region) : Type 0 where
   pub base : r .base < 2 ^ 64
   pub count : r .count < 2 ^ 64
 
+-- Inner: each word of a bank has at most so many bits
+pub record BankFits (bits : ℕ) (b : Bank) : Type 0 where
+  pub latch : b .latch < 2 ^ bits
+  pub level : b .level < 2 ^ bits
+  pub trigger : b .trigger < 2 ^ bits
+
 -- Inner: banks and VCPUs take 32 bits for each number
-pub record BankWords (b : Bank) : Type 0 where
-  pub latch : b .latch < 2 ^ 32
-  pub level : b .level < 2 ^ 32
-  pub trigger : b .trigger < 2 ^ 32
+abbrev pub BankWords : Bank → Type 0
+BankWords b = BankFits 32 b
 
 pub record VcpuWords (v : Vcpu) : Type 0 where
   pub affinity : v .affinity < 2 ^ 32

@@ -1,7 +1,7 @@
 // The guest as the code holds it: plain structs by value, tables as arrays with the number of rows in use.
 // What lies past a count is never read.
 ghost use mathlib.Core.Path.{_≡_};
-ghost use Rattle.guest.specs.Machine.{view, fresh, noBank, noVcpu, Held};
+ghost use Rattle.guest.specs.Machine.{view, fresh, noBank, noVcpu, bankBits, Held};
 
 // §1.4: the address width p in bits, and the run of guest memory.
 pub struct Memory {
@@ -178,6 +178,16 @@ pub fn fresh_bank() -> Bank
         level: 0,
         trigger: 0,
     }
+}
+
+// How many interrupts the shared bank of a row has (§4.17): INTIDs 1,020 to 1,023 are none.
+pub fn bank_bits(j: usize) -> u32
+    ensures { λ r. ⌜ r ≡ bankBits j ⌝ }
+{
+    if j == 30 {
+        return 28;
+    }
+    32
 }
 
 // A VCPU as it is added (§3.1): its SGIs, INTIDs 0 to 15, are edge.

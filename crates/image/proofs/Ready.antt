@@ -10,10 +10,10 @@ use Rattle.areas.proofs.Tests.{and-left, and-right}
 use Rattle.fields.specs.Field.{getField}
 use Rattle.lists.specs.Rows.{findIx, all}
 use Rattle.lists.proofs.All.{none, more}
-use Rattle.guest.specs.Machine.{noVcpu}
+use Rattle.guest.specs.Machine.{noVcpu, bankBits}
 use Rattle.guest.specs.Words.{Words, VcpuWords}
 use Rattle.rules.specs.Standing.{standing}
-use Rattle.rules.specs.Rules.{rules, memoryOk, irqsOk, controlOk, frameOk, framesOk, initOk, taken, distinct, vcpuOk, vcpusOk, tableOk, tablesOk, itsOk}
+use Rattle.rules.specs.Rules.{rules, memoryOk, irqsOk, controlOk, frameOk, framesOk, initOk, taken, distinct, vcpuOk, vcpusOk, bankFits, lastOk, untouched, tableOk, tablesOk, itsOk}
 use Rattle.rules.proofs.Parts.{rules-parts}
 use Rattle.kept.proofs.Vcpus.{fresh-good}
 use Rattle.layout.proofs.Round.{Room}
@@ -33,7 +33,7 @@ image-says size e = record {
 }
 
 pub ready : (size : ℕ) → Image size → rules (guestOf size) ≡ true
-unfolding rules guestOf memoryOk controlOk irqsOk framesOk frameOk endsBy initOk vcpusOk itsOk tablesOk tableOk inside overlaps standing apart strikes struck findIx all distinct taken vcpuOk getField
+unfolding rules guestOf memoryOk controlOk irqsOk framesOk frameOk endsBy initOk vcpusOk bankFits lastOk bankBits untouched itsOk tablesOk tableOk inside overlaps standing apart strikes struck findIx all distinct taken vcpuOk getField
 ready size i =
     let l = i .least in
     let m = i .most in

@@ -4,37 +4,30 @@ use native.Mathlib.Omega.{arith}
 use mathlib.Core.Path.{_≡_, refl, sym, ap, _∙_}
 use mathlib.Core.Bool.{Bool, true, _&&_, not}
 use mathlib.Core.List.{List, [], _∷_, map}
-use lib.ListN.{length, length-map}
+use lib.ListN.{length, getD, length-map}
 use lib.Dec.{ltb, eqb}
 use borrow.Author.Tests.{lt-ltb}
 use Rattle.lists.specs.Rows.{findIx}
 use Rattle.lists.proofs.All.{from-all, to-all}
-use Rattle.guest.specs.declared.Bank.{Bank}
 use Rattle.guest.specs.declared.Vcpu.{Vcpu}
-use Rattle.guest.specs.Machine.{Machine}
-use Rattle.guest.specs.Words.{Words, BankWords, VcpuWords}
+use Rattle.guest.specs.Machine.{Machine, noBank, bankBits}
+use Rattle.guest.specs.Words.{Words, VcpuWords}
 use Rattle.rules.specs.Standing.{standing}
-use Rattle.rules.specs.Rules.{controlOk, framesOk, initOk, taken, distinct, vcpuOk, vcpusOk, tablesOk, itsOk, rules}
-use Rattle.rules.proofs.Parts.{vcpu-parts, vcpu-whole, vcpus-whole, rules-parts, rules-whole}
-use Rattle.rules.proofs.Facts.{sound-control, sound-vcpus}
+use Rattle.rules.specs.Rules.{controlOk, framesOk, initOk, taken, distinct, vcpuOk, vcpusOk, lastOk, untouched, tablesOk, itsOk, rules}
+use Rattle.rules.proofs.Parts.{vcpu-parts, vcpu-whole, vcpus-whole, fits-whole, untouched-parts, untouched-whole, rules-parts, rules-whole}
+use Rattle.rules.proofs.Facts.{sound-control, sound-vcpus, sound-last}
 use Rattle.kept.specs.Good.{Good}
-use Rattle.irqs.proofs.Kept.{BankOk, OwnOk, Tame, Same, Kept}
+use Rattle.irqs.proofs.Kept.{OwnOk, Tame, Same, Kept}
 use Rattle.irqkept.proofs.Lists.{all-weaken, all-both, find-map}
 
 -- a row that fits and passes is tame, and back
-bank-tame : (b : Bank) → BankWords b → BankOk b
-bank-tame b w = record { latch = w .latch; level = w .level; trigger = w .trigger }
-
-bank-words : (b : Bank) → BankOk b → BankWords b
-bank-words b t = record { latch = t .latch; level = t .level; trigger = t .trigger }
-
 vcpu-tame : (v : Vcpu) → VcpuWords v → vcpuOk v ≡ true → OwnOk v
 vcpu-tame v w e =
     let p = vcpu-parts v e in
-    record { affinity = w .affinity; bank = bank-tame (v .bank) (w .bank); status = p .status; trigger = p .edge; level = p .level }
+    record { affinity = w .affinity; bank = w .bank; status = p .status; trigger = p .edge; level = p .level }
 
 vcpu-words : (v : Vcpu) → OwnOk v → VcpuWords v
-vcpu-words v t = record { affinity = t .affinity; bank = bank-words (v .bank) (t .bank); status = omega (arith, t .status) }
+vcpu-words v t = record { affinity = t .affinity; bank = t .bank; status = omega (arith, t .status) }
 
 vcpu-passes : (v : Vcpu) → OwnOk v → vcpuOk v ≡ true
 vcpu-passes v t = vcpu-whole v (record { edge = t .trigger; level = t .level; status = t .status })
@@ -42,7 +35,8 @@ vcpu-passes v t = vcpu-whole v (record { edge = t .trigger; level = t .level; st
 pub tame : (m : Machine) → Good m → Tame m
 tame m h = record {
   vcpus = all-both vcpu-tame (h .words .vcpus) (from-all vcpuOk (m .vcpus) (sound-vcpus m (h .rules) .each));
-  shared = all-weaken bank-tame (h .words .shared);
+  shared = h .words .shared;
+  last = sound-last m (h .rules);
   status = sound-control m (h .rules) .status;
 }
 
@@ -110,7 +104,7 @@ module _ (m m′ : Machine) (h : Good m) (k : Kept m m′) where
         frames = rw (s .frames) (w .frames);
         regions = rw (s .regions) (w .regions);
         vcpus = all-weaken vcpu-words (k .tame .vcpus);
-        shared = all-weaken bank-words (k .tame .shared);
+        shared = k .tame .shared;
         tables = rw (s .tables) (w .tables);
       }
 
@@ -123,6 +117,17 @@ module _ (m m′ : Machine) (h : Good m) (k : Kept m m′) where
         distinct = distinct-same (m′ .vcpus) (m .vcpus) (k .same .affinities) ∙ p .distinct;
       })
 
+  last-kept : lastOk (m′ .shared) ≡ true
+  unfolding lastOk
+  last-kept = fits-whole (bankBits 30) (getD (m′ .shared) 30 noBank) (k .tame .last)
+
+  -- before INIT such a call changes nothing
+  untouched-kept : untouched m′ ≡ true
+  untouched-kept =
+      untouched-whole m′ (λ n.
+      let q : m .control .init ≡ 1 → ⊥ = λ i. n (k .same .init ∙ i) in
+      rw (k .early q) (untouched-parts m (rules-parts m (h .rules) .untouched) q))
+
   rules-kept : rules m′ ≡ true
   rules-kept =
       let s = k .same in
@@ -134,6 +139,8 @@ module _ (m m′ : Machine) (h : Good m) (k : Kept m m′) where
         init = init-same m m′ s ∙ p .init;
         vcpus = vcpus-kept;
         shared = rw (s .shared, s .irqs) (p .shared);
+        last = last-kept;
+        untouched = untouched-kept;
         its = its-same m m′ s ∙ p .its;
         tables = tables-same m m′ s ∙ p .tables;
       })

@@ -1,4 +1,5 @@
--- Which VCPUs, INTIDs and line levels the calls take (§4.8), and whose bit a read of pending gives (§4.2, §4.9). Assumes nothing.
+-- Which VCPUs, INTIDs and line levels the calls take (§4.8), and whose bit a read of pending gives and a change stores (§4.2, §4.9, §4.17).
+-- Assumes nothing.
 use Prim.Native.Nat.{ℕ, _-_, _/_, _%_, _^_, _≤_, _<_}
 use native.Mathlib.Nat.{mod-eq-of-lt, zero-div}
 use native.Mathlib.Omega.{arith}
@@ -13,13 +14,15 @@ use Rattle.lists.specs.Rows.{choose}
 use Rattle.guest.specs.declared.Bank.{Bank}
 use Rattle.guest.specs.declared.Vcpu.{Vcpu}
 use Rattle.guest.specs.declared.Reading.{Reading}
-use Rattle.guest.specs.Machine.{Machine, accept, initialised, noBank, noVcpu}
-use Rattle.guest.proofs.Anchors.{bitAt}
-use Rattle.banks.specs.Bank.{pending, raised, lowered, lined}
+use Rattle.guest.specs.Machine.{Machine, accept, initialised, noBank, noVcpu, bankBits}
+use Rattle.guest.specs.Words.{BankFits}
+use Rattle.guest.proofs.Anchors.{bitAt, bits-below}
+use Rattle.banks.specs.Bank.{pending, raised, lowered, lined, withTrigger, trimmed}
 use Rattle.banks.proofs.Anchors.{level-quiet}
+use Rattle.banks.proofs.Fits.{trimmed-same, trimmed-trigger, raised-fits, lowered-fits, lined-fits}
 use Rattle.irqs.specs.declared.Spot.the-variants.{Own, Shared}
-use Rattle.irqs.specs.Spots.{spotOf, sharedSpot, bankOf}
-use Rattle.irqs.specs.Irqs.{irqFault, irqPending, irqSet, irqClear, irqLine, changed}
+use Rattle.irqs.specs.Spots.{spotOf, sharedSpot, bankOf, triggerWord}
+use Rattle.irqs.specs.Irqs.{irqFault, irqPending, irqSet, irqClear, irqLine, irqTrigger, changed}
 use Rattle.irqs.proofs.IrqLaws.{not-ready, no-vcpu, no-intid, no-fault}
 
 -- INTID 1,023 is the last one
@@ -77,15 +80,26 @@ module _ (k intid : ℕ) (m : Machine) where
   unfolding spotOf sharedSpot
   shared-spot h l = rw (le-ltb intid 32 h, lt-ltb (intid / 32 - 1) (length (m .shared)) l)
 
-  changed-holds : (f : Bank → Bank) (b : Bank) → k < length (m .vcpus) → Holds m b → Holds (changed k intid f m) (f b)
-  changed-holds f b v (inl p) =
-      inl (p .0, rw (own-spot (p .0)) (ap (λ (x : Vcpu). x .bank) (getD-set-same (m .vcpus) k _ (noVcpu 0) v) ∙ ap f (p .1)))
-  changed-holds f b v (inr p) =
+  -- how many interrupts the shared bank of the INTID has
+  abbrev bits : ℕ
+  bits = bankBits (intid / 32 - 1)
+
+  -- a change leaves x there, if that is what is stored of the changed bank
+  changed-holds : (f : Bank → Bank) (b x : Bank) → k < length (m .vcpus) → (intid < 32 → f b ≡ x) → (32 ≤ intid → trimmed bits (f b) ≡ x)
+      → Holds m b → Holds (changed k intid f m) x
+  changed-holds f b x v own shared (inl p) =
+      inl (p .0, rw (own-spot (p .0)) (ap (λ (y : Vcpu). y .bank) (getD-set-same (m .vcpus) k _ (noVcpu 0) v) ∙ ap f (p .1) ∙ own (p .0)))
+  changed-holds f b x v own shared (inr p) =
       inr (
         p .0,
         rw (shared-spot (p .0) (p .1), length-set) (p .1),
-        rw (shared-spot (p .0) (p .1)) (getD-set-same (m .shared) (intid / 32 - 1) _ noBank (p .1) ∙ ap f (p .2)),
+        rw (shared-spot (p .0) (p .1))
+            (getD-set-same (m .shared) (intid / 32 - 1) _ noBank (p .1) ∙ ap (λ (y : Bank). trimmed bits (f y)) (p .2) ∙ shared (p .0)),
       )
+
+  -- a changed bank is stored as it is where it fits, as that of an INTID below 1,020 does
+  kept-holds : (f : Bank → Bank) (b : Bank) → k < length (m .vcpus) → (32 ≤ intid → BankFits bits (f b)) → Holds m b → Holds (changed k intid f m) (f b)
+  kept-holds f b v g h = changed-holds f b (f b) v (λ l. refl) (λ l. trimmed-same bits (f b) (g l)) h
 
   module _ (n : Named) where
     -- a call reads or changes that bank, at bit intid mod 32
@@ -101,19 +115,39 @@ module _ (k intid : ℕ) (m : Machine) where
           at (inl p) = rw (own-spot (p .0)) (p .1)
           at (inr p) = rw (shared-spot (p .0) (p .1)) (p .2)
 
-      pub set-holds : (irqSet k intid m .errno ≡ 0) × Holds (irqSet k intid m .next) (raised (intid % 32) b)
-      unfolding irqSet
-      set-holds = rw (fault-none .1 n) (refl, changed-holds (raised (intid % 32)) b (n .1) h)
+      -- where a shared bank fits its interrupts, as it does in a sound guest
+      module _ (f : 32 ≤ intid → BankFits bits b) where
+        -- an INTID below 1,020 has its latch set and cleared, and its line stored
+        module _ (u : intid < 1020) where
+          pub set-holds : (irqSet k intid m .errno ≡ 0) × Holds (irqSet k intid m .next) (raised (intid % 32) b)
+          unfolding irqSet
+          set-holds =
+              rw (fault-none .1 n)
+              (refl, kept-holds (raised (intid % 32)) b (n .1) (λ l. raised-fits bits b (f l) (intid % 32) (bits-below intid l u)) h)
 
-      pub clear-holds : (irqClear k intid m .errno ≡ 0) × Holds (irqClear k intid m .next) (lowered (intid % 32) b)
-      unfolding irqClear
-      clear-holds = rw (fault-none .1 n) (refl, changed-holds (lowered (intid % 32)) b (n .1) h)
+          pub clear-holds : (irqClear k intid m .errno ≡ 0) × Holds (irqClear k intid m .next) (lowered (intid % 32) b)
+          unfolding irqClear
+          clear-holds =
+              rw (fault-none .1 n)
+              (refl, kept-holds (lowered (intid % 32)) b (n .1) (λ l. lowered-fits bits b (f l) (intid % 32) (bits-below intid l u)) h)
 
-      pub line-holds : (level : ℕ) → level ≤ 1 → 16 ≤ intid
-          → (irqLine k intid level m .errno ≡ 0) × Holds (irqLine k intid level m .next) (lined (intid % 32) level b)
-      unfolding irqLine
-      line-holds level l g =
-          rw (fault-none .1 n, le-ltb 1 level l, le-ltb intid 16 g) (refl, changed-holds (lined (intid % 32) level) b (n .1) h)
+          pub line-holds : (level : ℕ) → level ≤ 1 → 16 ≤ intid
+              → (irqLine k intid level m .errno ≡ 0) × Holds (irqLine k intid level m .next) (lined (intid % 32) level b)
+          unfolding irqLine
+          line-holds level v g =
+              rw (fault-none .1 n, le-ltb 1 level v, le-ltb intid 16 g)
+              (refl, kept-holds (lined (intid % 32) level) b (n .1) (λ l. lined-fits bits b (f l) (intid % 32) (bits-below intid l u) level v) h)
+
+        -- a trigger word goes into the bank of each shared INTID, of those from 1,020 on too: as many bits of it as the bank has interrupts
+        pub trigger-holds : (word : ℕ) → 32 ≤ intid → intid / 32 - 1 < length (m .shared)
+            → (irqTrigger k intid word m .errno ≡ 0) × Holds (irqTrigger k intid word m .next) (withTrigger (word % 2 ^ bits) b)
+        unfolding irqTrigger
+        trigger-holds word l s =
+            rw (fault-none .1 n) (
+              refl,
+              changed-holds (withTrigger (triggerWord (spotOf k intid m) word)) b (withTrigger (word % 2 ^ bits) b) (n .1)
+                  (λ o. absurd (omega arith)) (λ o. rw (shared-spot l s) (trimmed-trigger bits word b (f l))) h,
+            )
 
     pub pending-own : intid < 32 → irqPending k intid m ≡ record { errno = 0; number = pending (getD (m .vcpus) k (noVcpu 0) .bank) intid }
     pending-own h = rw (mod-eq-of-lt h) at (pending-read (getD (m .vcpus) k (noVcpu 0) .bank) (inl (h, refl)))

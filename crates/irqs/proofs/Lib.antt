@@ -6,3 +6,4 @@ pub mod Kept
 pub mod Answers
 pub mod Apart
 pub mod Anchors
+pub mod Special

@@ -40,6 +40,22 @@ module _ {A : Type 0} {P : A → Type 0} where
   all-set (y ∷ ys) (suc k) x p (more q r) = more q (all-set ys k x p r)
 
 module _ {A : Type 0} where
+  -- a row replaced by itself
+  pub set-same : (l : List A) (k : ℕ) (d : A) → set l k (getD l k d) ≡ l
+  set-same [] k d = refl
+  set-same (x ∷ xs) zero d = refl
+  set-same (x ∷ xs) (suc k) d = ap (λ (t : List A). x ∷ t) (set-same xs k d)
+
+module _ {A : Type 0} (P : A → Type 0) where
+  -- a property of row i, where row j is replaced: of the new row, if it is the same one
+  pub at-set : (l : List A) (j i : ℕ) (x d : A) → (j ≡ i → P x) → P (getD l i d) → P (getD (set l j x) i d)
+  at-set [] j i x d f p = p
+  at-set (y ∷ ys) zero zero x d f p = f refl
+  at-set (y ∷ ys) zero (suc i) x d f p = p
+  at-set (y ∷ ys) (suc j) zero x d f p = p
+  at-set (y ∷ ys) (suc j) (suc i) x d f p = at-set ys j i x d (λ e. f (ap suc e)) p
+
+module _ {A : Type 0} where
   -- a search finds the same after a row is replaced by one that passes as the old one did
   pub find-set : (p : A → Bool) (l : List A) (k : ℕ) (x d : A) → p x ≡ p (getD l k d) → findIx p (set l k x) ≡ findIx p l
   unfolding findIx

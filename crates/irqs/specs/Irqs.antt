@@ -51,6 +51,7 @@ irqLine k intid level m =
     (accept (changed k intid (lined (intid % 32) level) m))))
     (refuse m (irqFault k intid m))
 
--- §4.7: the trigger of the INTID's bank, but for the bits of SGIs. The word has 32 bits by the type of the export.
+-- §4.7: the trigger of the INTID's bank, but for the bits of SGIs; `withBank` cuts those past its interrupts (§4.17). The word has 32 bits by
+-- the type of the export.
 unfoldable pub irqTrigger : ℕ → ℕ → ℕ → Machine → Result
 irqTrigger k intid word m = changeIrq k intid (withTrigger (triggerWord (spotOf k intid m) word)) m

@@ -73,7 +73,7 @@ distributorRead Zero m = 0
 distributorRead Status m = m .control .status
 distributorRead Unknown m = 0
 
--- §4.11: what a set of group 1 stores: a latch word with all its bits (§4.13), of STATUSR the four lowest (§4.14)
+-- §4.11: what a set of group 1 stores: a latch word with all bits that its bank has (§4.13, §4.17), of STATUSR the four lowest (§4.14)
 abbrev pub distributorWrite : Register → ℕ → Machine → Machine
 distributorWrite (Latch n) value m = withBank (sharedSpot n m) (withLatch value (bankOf (sharedSpot n m) m)) m
 distributorWrite Zero value m = m

@@ -9,7 +9,8 @@ use Rattle.fields.specs.Field.{putField}
 use Rattle.guest.specs.declared.Bank.{Bank}
 use Rattle.guest.specs.declared.Vcpu.{Vcpu}
 use Rattle.guest.specs.declared.Guest.{Guest}
-use Rattle.guest.specs.Machine.{Machine, view, Held, noBank, noVcpu, withVcpus, withShared}
+use Rattle.guest.specs.Machine.{Machine, view, Held, noBank, noVcpu, bankBits, withVcpus, withShared}
+use Rattle.banks.specs.Bank.{trimmed}
 use Rattle.irqs.specs.declared.Spot.{Spot}
 use Rattle.irqs.specs.declared.Spot.the-variants.{Own, Shared, Absent}
 
@@ -32,15 +33,17 @@ withVcpu k v m = withVcpus (set (m .vcpus) k v) m
 abbrev pub ownBank : Vcpu → Bank → Vcpu
 ownBank v b = record { affinity = v .affinity; bank = b; status = v .status }
 
--- §4.9: the bank at a spot. One past the count reads 0 in each of its words; below, a write to it does nothing.
+-- §4.9: the bank at a spot. One past the count reads 0 in each of its words.
 abbrev pub bankOf : Spot → Machine → Bank
 bankOf (Own k) m = vcpuAt k m .bank
 bankOf (Shared j) m = getD (m .shared) j noBank
 bankOf Absent m = noBank
 
+-- §4.9, §4.17: a bank stored at a spot. Of a shared one the words keep as many bits as it has interrupts, so that INTIDs 1,020 to 1,023 stay 0
+-- whatever is written; past the count nothing is stored.
 abbrev pub withBank : Spot → Bank → Machine → Machine
 withBank (Own k) b m = withVcpu k (ownBank (vcpuAt k m) b) m
-withBank (Shared j) b m = withShared (set (m .shared) j b) m
+withBank (Shared j) b m = withShared (set (m .shared) j (trimmed (bankBits j) b)) m
 withBank Absent b m = m
 
 -- §4.3: SGIs are bits [15:0] of a VCPU's own bank. In a trigger word (§4.7) they stay 1, in a level word (§4.15) they stay 0.

@@ -116,7 +116,7 @@ pub fn irq_line(g: Guest, vcpu: u64, intid: u64, level: u64) -> Outcome
     stored(g, spot, lined(b, bit_of(intid), level))
 }
 
-// The whole trigger word of the INTID's bank is stored; no latch and no level changes.
+// The trigger word of the INTID's bank is stored, but for what is no interrupt's; no latch and no level changes.
 pub fn irq_trigger(g: Guest, vcpu: u64, intid: u64, word: u64) -> Outcome
     requires { ⌜ Held g ⌝ }
     ensures { λ r. ⌜ Does r (irqTrigger vcpu intid word (view g)) ⌝ }

@@ -1,5 +1,6 @@
 // Where the bank of an INTID is, and the bank that stands there.
 use super::Spot;
+use banks::trimmed;
 use fields::field_put;
 use guest::Bank;
 use guest::Guest;
@@ -88,12 +89,15 @@ fn shared_at(g: Guest, j: usize) -> Bank
     shared.rows[j]
 }
 
+// No more bits are stored than the bank has interrupts (§4.17). Each call that changes a shared bank comes through here; setting the
+// interrupt count, which makes new ones, does not.
 fn with_shared(g: Guest, j: usize, b: Bank) -> Guest
     requires { ⌜ Held g × (j < length (view g .shared)) ⌝ }
     ensures { λ r. ⌜ Shows r (withBank (Spot.Shared j) b (view g)) ⌝ }
 {
+    let row = trimmed(b, guest::bank_bits(j));
     let mut shared = g.shared;
-    shared.rows[j] = b;
+    shared.rows[j] = row;
     let mut next = g;
     next.shared = shared;
     next

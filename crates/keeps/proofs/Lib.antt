@@ -1,3 +1,4 @@
 pub mod Rows
 pub mod Apart
 pub mod Verdicts
+pub mod BankTests

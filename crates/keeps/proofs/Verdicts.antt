@@ -24,7 +24,7 @@ use Rattle.words.specs.Words.{leAt}
 use Rattle.words.proofs.Rows.{length-rowsOf}
 use Rattle.layout.specs.Layout.{memoryOf, controlOf, framesOf, tablesOf, bankOf, decode}
 use Rattle.rules.specs.Standing.{standing, runSize, regionArea, total, distributorSize, itsSize}
-use Rattle.rules.specs.Rules.{memoryOk, irqsOk, controlOk, frameOk, regionOk, limitOf, framesOk, initOk, distinct, vcpuOk, vcpusOk, tableArea, memoryArea, tableOk, tablesOk, rules}
+use Rattle.rules.specs.Rules.{memoryOk, irqsOk, controlOk, frameOk, regionOk, limitOf, framesOk, initOk, distinct, vcpuOk, vcpusOk, lastOk, untouched, tableArea, memoryArea, tableOk, tablesOk, rules}
 use Rattle.areas.proofs.Tests.{refuted}
 use Rattle.rules.proofs.Parts.{frames-parts, init-parts, init-whole, tables-parts, its-parts, its-whole, rules-parts}
 
@@ -228,6 +228,8 @@ pub record RulesHold (m : Machine) (r : Memory) (k : Control) (f : Frames) : Typ
   pub frames : framesOk m ≡ true
   pub init : initOk m ≡ true
   pub vcpus : vcpusOk (m .vcpus) ≡ true
+  pub last : lastOk (m .shared) ≡ true
+  pub untouched : untouched m ≡ true
   pub its : k .itsinit ≤ f .its .set
 
 module _ (s : List ℕ) (r : Memory) (k : Control) (f : Frames) (hr : r ≡ memoryOf s) (hk : k ≡ controlOf s) (hf : f ≡ framesOf s) where
@@ -243,6 +245,8 @@ module _ (s : List ℕ) (r : Memory) (k : Control) (f : Frames) (hr : r ≡ memo
         frames = p .frames;
         init = p .init;
         vcpus = p .vcpus;
+        last = p .last;
+        untouched = p .untouched;
         its = rw (control-read s hk, frames-read s hf) (its-parts m (p .its));
       }
 
@@ -256,5 +260,7 @@ module _ (s : List ℕ) (r : Memory) (k : Control) (f : Frames) (hr : r ≡ memo
         p .init,
         p .vcpus,
         eq-eqb (length (m .shared)) (sharedCount (m .control .irqs)) (shared-read s),
+        p .last,
+        p .untouched,
         its-whole m (rw (control-read s hk, frames-read s hf) at (p .its)),
       ) q

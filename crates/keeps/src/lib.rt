@@ -1,5 +1,7 @@
 // Whether the bytes of a state hold a guest that keeps the rules: the test that they pass before any call goes on. Regions and VCPUs
 // are read where they lie, one row at a time, so that no table is ever copied.
+mod banks;
+
 use areas::Area;
 use guest::Control;
 use guest::Frame;
@@ -494,6 +496,12 @@ pub fn keeps_rules(s: &[u8]) -> bool
         return false;
     }
     if !vcpus_ok(s) {
+        return false;
+    }
+    if !banks::last_ok(s) {
+        return false;
+    }
+    if !banks::untouched(s, control.init, control.status) {
         return false;
     }
     if its.set < control.itsinit {

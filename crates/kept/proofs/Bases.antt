@@ -18,7 +18,7 @@ use Rattle.guest.specs.declared.Frames.{Frames}
 use Rattle.guest.specs.declared.Region.{Region}
 use Rattle.guest.specs.Machine.{Machine, initialised, isSet, withFrames, withRegions}
 use Rattle.rules.specs.Standing.{standing, placed, runSize, regionArea, total, distributorSize, itsSize}
-use Rattle.rules.specs.Rules.{limitOf, frameOk, regionOk, tablesOk}
+use Rattle.rules.specs.Rules.{limitOf, frameOk, regionOk, untouched, tablesOk}
 use Rattle.frames.specs.Bases.{setTo, areaFault, frameFault, finish, setDistributor, singleFault, setSingle, setItsBase, wordRegion, wordFlags, wordIndex, regionFault, addRegion, setGroup0, setItsGroup0}
 use Rattle.guest.specs.Words.{FrameWords, FramesWords, RegionWords}
 use Rattle.kept.specs.Good.{Good, Stays, Keeps}
@@ -107,7 +107,7 @@ module _ (m : Machine) (c : apart (standing m) ≡ true) where
   stand-region r f = joined (atDistributor m ++ atSingle m ++ atRegions m) _ (atIts m) refl (simp (map-append, append-assoc)) c (f .strikes)
 
 frames-good : {f : Frames} {m : Machine} → Good m → FramesWords f → Places (withFrames f m) → (initialised m ≡ true → Ready (withFrames f m)) → m .control .itsinit ≤ f .its .set → Good (withFrames f m)
-unfolding tablesOk
+unfolding untouched tablesOk
 frames-good {f} {m} h k q r l =
     let p = parts m h in
     let w = h .words in
@@ -128,6 +128,8 @@ frames-good {f} {m} h k q r l =
       init = made-ready (withFrames f m) r;
       vcpus = p .vcpus;
       shared = p .shared;
+      last = p .last;
+      untouched = p .untouched;
       its = l;
       tables = p .tables;
     })
@@ -248,7 +250,7 @@ module _ (w : ℕ) (m : Machine) where
       record { base = omega arith; count = omega arith }
 
   addRegion-keeps : Good m → Stays (addRegion w m)
-  unfolding addRegion tablesOk
+  unfolding addRegion untouched tablesOk
   addRegion-keeps h =
       finish-keeps (regionFault w m) m _ h
       (λ z.
@@ -288,6 +290,8 @@ module _ (w : ℕ) (m : Machine) where
             record { vcpu = g .vcpu; distributor = g .distributor; room = rw (a .single) (le-leb _ _ (le-trans l (total-more rs (wordRegion w)))) });
         vcpus = p .vcpus;
         shared = p .shared;
+        last = p .last;
+        untouched = p .untouched;
         its = p .its;
         tables = p .tables;
       }))

@@ -13,7 +13,7 @@ use Rattle.areas.specs.Area.{endsBy, strikes, apart}
 use Rattle.guest.specs.declared.Frame.{Frame}
 use Rattle.guest.specs.Machine.{Machine, initialised, isSet, withControl}
 use Rattle.rules.specs.Standing.{standing, others, placed, runSize, wholeRun, regionArea, total, distributorSize, itsSize}
-use Rattle.rules.specs.Rules.{limitOf, frameOk}
+use Rattle.rules.specs.Rules.{limitOf, frameOk, untouched}
 use Rattle.frames.specs.Vcpus.{withInit}
 use Rattle.frames.specs.Init.{runArea, hasPlaces, vgicInit}
 use Rattle.kept.specs.Good.{Good, Stays, Keeps}
@@ -66,7 +66,9 @@ module _ (m : Machine) where
       let e = resized (isSet (m .frames .single)) d r a (runArea m) (simp append-assoc at c) (λ s. simp append-assoc at (g .run-clear s)) in
       simp append-assoc e
 
+  -- after INIT nothing is asked of what was written before
   started-good : Good m → 1 ≤ length (m .vcpus) → isSet (m .frames .distributor) ≡ true → Room m → Good started
+  unfolding untouched
   started-good h n d g =
       let p = parts m h in
       let k = p .control in
@@ -94,6 +96,8 @@ module _ (m : Machine) where
         init = made-ready started (λ _. record { vcpu = n; distributor = d; room = g .room });
         banks = h .words .shared;
         count = p .shared;
+        last = p .last;
+        untouched = refl;
         later = omega arith;
         based = p .its;
       })

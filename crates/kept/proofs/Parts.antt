@@ -15,7 +15,7 @@ use Rattle.guest.specs.declared.Control.{Control}
 use Rattle.guest.specs.declared.Vcpu.{Vcpu}
 use Rattle.guest.specs.Machine.{Machine, initialised, isSet, sharedCount, withControl}
 use Rattle.rules.specs.Standing.{standing, runSize, total, distributorSize, itsSize}
-use Rattle.rules.specs.Rules.{memoryOk, irqsOk, controlOk, frameOk, regionOk, limitOf, framesOk, initOk, distinct, vcpuOk, vcpusOk, tableOk, tablesOk, itsOk, rules}
+use Rattle.rules.specs.Rules.{memoryOk, irqsOk, controlOk, frameOk, regionOk, limitOf, framesOk, initOk, distinct, vcpuOk, vcpusOk, lastOk, untouched, tableOk, tablesOk, itsOk, rules}
 use Rattle.rules.proofs.Parts.{count-parts, count-whole}
 use Rattle.guest.specs.Words.{Words, ControlWords}
 use Rattle.kept.specs.Good.{Good}
@@ -78,6 +78,8 @@ pub record Parts (m : Machine) : Type 0 where
   pub init : initOk m ≡ true
   pub vcpus : vcpusOk (m .vcpus) ≡ true
   pub shared : length (m .shared) ≡ sharedCount (m .control .irqs)
+  pub last : lastOk (m .shared) ≡ true
+  pub untouched : untouched m ≡ true
   pub its : m .control .itsinit ≤ m .frames .its .set
   pub tables : tablesOk m ≡ true
 
@@ -90,6 +92,8 @@ split m e =
     let e₅ = and-right (initOk m) _ e₄ in
     let e₆ = and-right (vcpusOk (m .vcpus)) _ e₅ in
     let e₇ = and-right (eqb (length (m .shared)) (sharedCount (m .control .irqs))) _ e₆ in
+    let e₈ = and-right (lastOk (m .shared)) _ e₇ in
+    let e₉ = and-right (untouched m) _ e₈ in
     record {
       memory = and-left _ _ e;
       control = marks (m .control) (and-left _ _ e₂);
@@ -97,15 +101,17 @@ split m e =
       init = and-left _ _ e₄;
       vcpus = and-left _ _ e₅;
       shared = eqb-true _ _ (and-left _ _ e₆);
-      its = leb-true _ _ (and-left _ _ e₇);
-      tables = and-right (itsOk m) _ e₇;
+      last = and-left _ _ e₇;
+      untouched = and-left _ _ e₈;
+      its = leb-true _ _ (and-left _ _ e₉);
+      tables = and-right (itsOk m) _ e₉;
     }
 
 pub join : {m : Machine} → Parts m → rules m ≡ true
 unfolding rules itsOk
 join p =
     and-both (p .memory) (and-both (marked (p .control)) (and-both (p .frames) (and-both (p .init) (and-both (p .vcpus)
-    (and-both (eq-eqb _ _ (p .shared)) (and-both (le-leb _ _ (p .its)) (p .tables)))))))
+    (and-both (eq-eqb _ _ (p .shared)) (and-both (p .last) (and-both (p .untouched) (and-both (le-leb _ _ (p .its)) (p .tables)))))))))
 
 -- of a good machine
 pub parts : (m : Machine) → Good m → Parts m

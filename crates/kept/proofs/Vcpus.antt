@@ -4,7 +4,7 @@ use native.Mathlib.Omega.{arith}
 use mathlib.Core.Path.{_≡_, refl, sym, ap, _∙_}
 use mathlib.Core.Bool.{Bool, true, false, _&&_, _||_, not}
 use mathlib.Core.List.{List, [], _∷_, _++_, append-nil}
-use lib.ListN.{length, replicate, length-append, length-replicate}
+use lib.ListN.{length, getD, replicate, length-append, length-replicate}
 use lib.Dec.{leb, eqb, lit<, lit≤}
 use borrow.Author.Tests.{leb-false, le-leb, eqb-true, eqb-false, eq-eqb, ne-eqb}
 use Rattle.lists.specs.Rows.{all}
@@ -13,10 +13,11 @@ use Rattle.fields.specs.Field.{getField}
 use Rattle.guest.specs.declared.Control.{Control}
 use Rattle.guest.specs.declared.Vcpu.{Vcpu}
 use Rattle.guest.specs.declared.Bank.{Bank}
-use Rattle.guest.specs.Machine.{Machine, initialised, isSet, noVcpu, noBank, noTables, unplaced, unset, sharedCount, fresh, withControl, withShared, withTables, withVcpus}
+use Rattle.guest.specs.Machine.{Machine, initialised, isSet, noVcpu, noBank, noTables, unplaced, unset, sharedCount, bankBits, fresh, withControl, withShared, withTables, withVcpus}
 use Rattle.areas.specs.Area.{apart, overlaps}
 use Rattle.rules.specs.Standing.{standing}
-use Rattle.rules.specs.Rules.{memoryOk, irqsOk, frameOk, framesOk, initOk, hasAffinity, taken, distinct, vcpuOk, vcpusOk, tableOk, tablesOk}
+use Rattle.rules.specs.Rules.{memoryOk, irqsOk, frameOk, framesOk, initOk, hasAffinity, taken, distinct, vcpuOk, vcpusOk, bankFits, lastOk, freshBank, freshVcpu, untouched, tableOk, tablesOk}
+use Rattle.rules.proofs.Parts.{untouched-parts, untouched-whole}
 use Rattle.frames.specs.Vcpus.{addVcpu, setRunning, setIrqs, itsInit}
 use Rattle.guest.specs.Words.{FrameWords, BankWords, TableWords}
 use Rattle.kept.specs.Good.{Good, Stays, Keeps}
@@ -53,6 +54,8 @@ pub record Step (c : Control) (bs : List Bank) (m : Machine) : Type 0 where
   pub init : initOk (withControl c m) ≡ true
   pub banks : All BankWords bs
   pub count : length bs ≡ sharedCount (c .irqs)
+  pub last : lastOk bs ≡ true
+  pub untouched : untouched (withShared bs (withControl c m)) ≡ true
   pub later : m .control .itsinit ≤ c .itsinit
   pub based : c .itsinit ≤ m .frames .its .set
 
@@ -78,12 +81,14 @@ step-good {c} {bs} {m} h s =
       init = s .init;
       vcpus = p .vcpus;
       shared = s .count;
+      last = s .last;
+      untouched = s .untouched;
       its = s .based;
       tables = tables-after m c (s .later) (p .tables);
     })
 
 pub setRunning-keeps : (r : ℕ) → r ≤ 1 → Keeps (setRunning r)
-unfolding setRunning framesOk standing initOk
+unfolding setRunning framesOk standing initOk untouched
 setRunning-keeps r l m h =
     choose-by Stays (initialised m)
     (λ i.
@@ -104,6 +109,8 @@ setRunning-keeps r l m h =
       init = p .init;
       banks = h .words .shared;
       count = p .shared;
+      last = p .last;
+      untouched = p .untouched;
       later = omega arith;
       based = p .its;
     }))
@@ -113,6 +120,20 @@ setRunning-keeps r l m h =
 fresh-banks : (n : ℕ) → All BankWords (replicate n noBank)
 fresh-banks zero = none
 fresh-banks (suc n) = more (record { latch = lit< tt; level = lit< tt; trigger = lit< tt }) (fresh-banks n)
+
+fresh-last : (n : ℕ) → lastOk (replicate n noBank) ≡ true
+unfolding lastOk bankFits bankBits
+fresh-last n = rw (row n 30)
+  where
+    row : (k i : ℕ) → getD (replicate k noBank) i noBank ≡ noBank
+    row zero i = refl
+    row (suc k) zero = refl
+    row (suc k) (suc i) = row k i
+
+all-fresh : (n : ℕ) → all freshBank (replicate n noBank) ≡ true
+unfolding all freshBank
+all-fresh zero = refl
+all-fresh (suc n) = all-fresh n
 
 pub setIrqs-keeps : (attribute width value : ℕ) → Keeps (setIrqs attribute width value)
 unfolding setIrqs framesOk standing initOk
@@ -137,6 +158,11 @@ setIrqs-keeps attribute width value m h =
       init = p .init;
       banks = fresh-banks (sharedCount value);
       count = length-replicate (sharedCount value) noBank;
+      last = fresh-last (sharedCount value);
+      untouched =
+          untouched-whole _ (λ i.
+          let u = untouched-parts m (p .untouched) i in
+          record { status = u .status; vcpus = u .vcpus; shared = all-fresh (sharedCount value) });
       later = omega arith;
       based = p .its;
     })))
@@ -145,7 +171,7 @@ setIrqs-keeps attribute width value m h =
     (λ _. h)
 
 pub itsInit-keeps : Keeps itsInit
-unfolding itsInit framesOk standing initOk
+unfolding itsInit framesOk standing initOk untouched
 itsInit-keeps m h =
     choose-by Stays (initialised m && isSet (m .frames .its))
     (λ e.
@@ -167,6 +193,8 @@ itsInit-keeps m h =
       init = p .init;
       banks = h .words .shared;
       count = p .shared;
+      last = p .last;
+      untouched = p .untouched;
       later = omega (arith, k .itsinit);
       based = omega arith;
     }))
@@ -181,7 +209,7 @@ no-tables m = and-both (le-leb 0 (m .control .itsinit) (omega arith)) refl
 
 -- a machine whose tables are not placed any more
 pub unplaced-good : (m : Machine) → Good m → Good (withTables noTables m)
-unfolding framesOk standing initOk
+unfolding framesOk standing initOk untouched
 unplaced-good m h =
     let p = parts m h in
     let w = h .words in
@@ -202,6 +230,8 @@ unplaced-good m h =
       init = p .init;
       vcpus = p .vcpus;
       shared = p .shared;
+      last = p .last;
+      untouched = p .untouched;
       its = p .its;
       tables = no-tables m;
     })
@@ -229,6 +259,18 @@ module _ (a : ℕ) (small : a < 2 ^ 32) (m : Machine) (h : Good m) where
   unfolding framesOk standing
   added-frames i = rw i (rw i at (parts m h .frames))
 
+  -- a new VCPU is as fresh as those before it
+  added-fresh : untouched added ≡ true
+  unfolding freshVcpu
+  added-fresh =
+      untouched-whole added (λ i.
+      let u = untouched-parts m (parts m h .untouched) i in
+      record {
+        status = u .status;
+        vcpus = to-all freshVcpu (m .vcpus ++ (noVcpu a ∷ [])) (all-append (m .vcpus) (from-all freshVcpu (m .vcpus) (u .vcpus)) (more refl none));
+        shared = u .shared;
+      })
+
   added-good : initialised m ≡ false → taken (m .vcpus) a ≡ false → length (m .vcpus) < 64 → Good added
   unfolding initOk tablesOk
   added-good i t l =
@@ -253,6 +295,8 @@ module _ (a : ℕ) (small : a < 2 ^ 32) (m : Machine) (h : Good m) where
         init = rw i;
         vcpus = added-rows t l;
         shared = p .shared;
+        last = p .last;
+        untouched = added-fresh;
         its = p .its;
         tables = p .tables;
       })
@@ -266,7 +310,7 @@ addVcpu-keeps a small m h =
     added-good a small m h i t (leb-false 64 (length (m .vcpus)) l))))
 
 pub fresh-good : (width start len : ℕ) → width < 2 ^ 64 → start < 2 ^ 64 → len < 2 ^ 64 → memoryOk (record { width = width; start = start; length = len }) ≡ true → Good (fresh width start len)
-unfolding framesOk frameOk standing apart all initOk vcpusOk distinct irqsOk
+unfolding framesOk frameOk standing apart all initOk vcpusOk distinct irqsOk untouched
 fresh-good width start len w s l e =
     good
     (record {
@@ -285,6 +329,8 @@ fresh-good width start len w s l e =
       init = refl;
       vcpus = refl;
       shared = refl;
+      last = fresh-last (sharedCount 256);
+      untouched = all-fresh (sharedCount 256);
       its = lit≤ tt;
       tables = no-tables (fresh width start len);
     })

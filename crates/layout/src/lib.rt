@@ -22,7 +22,7 @@ ghost use mathlib.Core.List.{[], _∷_};
 ghost use Prim.Native.Nat.{_+_, _*_, _≤_, _<_};
 ghost use lib.ListN.{length, take, drop, getD};
 ghost use Rattle.words.specs.Words.{rowsOf, bytesAll, bytesOf, putAt};
-ghost use Rattle.guest.specs.Machine.{view, Held, sharedCount, noRegion, noVcpu};
+ghost use Rattle.guest.specs.Machine.{view, Held, sharedCount, noRegion, noVcpu, noBank};
 ghost use Rattle.layout.specs.Layout.{size, memoryOf, controlOf, frameAt, framesOf, tableAt, tablesOf, regionOf, regionBytes, vcpuOf, vcpuBytes, bankOf, bankBytes, controlWords, framesWords, tablesWords, headWords, decode, stored, countsOk, Counted};
 
 pub fn load_memory(s: &[u8]) -> Memory
@@ -300,6 +300,20 @@ pub fn vcpu_at(s: &[u8], i: usize) -> Vcpu
     ensures { λ r. ⌜ r ≡ getD (decode (now (s .entry)) .vcpus) i (noVcpu 0) ⌝ }
 {
     load_vcpu(s, 696 + i * 20)
+}
+
+pub fn bank_count(s: &[u8]) -> usize
+    requires { ⌜ Counted (now s) ⌝ }
+    ensures { λ r. ⌜ r ≡ length (decode (now (s .entry)) .shared) ⌝ }
+{
+    shared_count(get64(s, 40)) as usize
+}
+
+pub fn bank_at(s: &[u8], i: usize) -> Bank
+    requires { ⌜ Counted (now s) × (i < length (decode (now s) .shared)) ⌝ }
+    ensures { λ r. ⌜ r ≡ getD (decode (now (s .entry)) .shared) i noBank ⌝ }
+{
+    load_bank(s, 1976 + i * 12)
 }
 
 // The guest that the bytes hold.

@@ -16,7 +16,7 @@ use Rattle.guest.specs.declared.Memory.{Memory}
 use Rattle.guest.specs.declared.Table.{Table}
 use Rattle.guest.specs.Machine.{Machine, noTables, withTables}
 use Rattle.rules.specs.Standing.{standing}
-use Rattle.rules.specs.Rules.{memoryArea, tableArea, framesOk, initOk, itsOk, tableOk, rules}
+use Rattle.rules.specs.Rules.{memoryArea, tableArea, framesOk, initOk, untouched, itsOk, tableOk, rules}
 use Rattle.rules.proofs.Parts.{table-whole, tables-whole, rules-parts, rules-whole}
 use Rattle.rules.proofs.Facts.{sound-tables}
 use Rattle.kept.proofs.Choice.{choose-by}
@@ -108,7 +108,7 @@ table-placed r t s w i =
 
 module _ (d c : Table) (m : Machine) (k : Mapped) (z : placeFault d c m k ≡ 0) (ds : d .set ≡ 1) (cs : c .set ≡ 1) (r : rules m ≡ true) (i : m .control .itsinit ≡ 1) where
   pub place-rules : rules (withTables (record { devices = d; collections = c }) m) ≡ true
-  unfolding framesOk standing initOk itsOk
+  unfolding framesOk standing initOk untouched itsOk
   place-rules =
       let p = rules-parts m r in
       let f = tables-fit d c m k z in
@@ -120,6 +120,8 @@ module _ (d c : Table) (m : Machine) (k : Mapped) (z : placeFault d c m k ≡ 0)
         init = p .init;
         vcpus = p .vcpus;
         shared = p .shared;
+        last = p .last;
+        untouched = p .untouched;
         its = p .its;
         tables =
             tables-whole after (record {

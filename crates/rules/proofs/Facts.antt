@@ -10,11 +10,12 @@ use borrow.Author.Tests.{lt-ltb}
 use Rattle.lists.specs.Rows.{all}
 use Rattle.guest.specs.declared.Region.{Region}
 use Rattle.guest.specs.declared.Guest.{Guest}
-use Rattle.guest.specs.Machine.{Machine, view, sharedCount}
+use Rattle.guest.specs.Machine.{Machine, view, noBank, sharedCount, bankBits}
+use Rattle.guest.specs.Words.{BankFits}
 use Rattle.rules.specs.Standing.{runSize, smallCount, Small, distributorSize, itsSize}
-use Rattle.rules.specs.Rules.{regionOk, limitOf, rules, Kept}
+use Rattle.rules.specs.Rules.{regionOk, limitOf, lastOk, rules, Kept}
 use Rattle.rules.proofs.Rows.{noRegion, row-passes, all-weaker}
-use Rattle.rules.proofs.Parts.{MemoryParts, IrqsParts, ControlParts, FrameParts, RegionParts, FramesParts, InitParts, VcpusParts, TableParts, TablesParts, memory-parts, irqs-parts, control-parts, frame-parts, region-parts, frames-parts, init-parts, vcpus-parts, table-parts, tables-parts, its-parts, rules-parts}
+use Rattle.rules.proofs.Parts.{MemoryParts, IrqsParts, ControlParts, FrameParts, RegionParts, FramesParts, InitParts, VcpusParts, UntouchedParts, TableParts, TablesParts, memory-parts, irqs-parts, control-parts, frame-parts, region-parts, frames-parts, init-parts, vcpus-parts, fits-parts, untouched-parts, table-parts, tables-parts, its-parts, rules-parts}
 
 none-left : {A : Type 0} (l : List A) → length l ≡ 0 → l ≡ []
 none-left [] e = refl
@@ -65,6 +66,14 @@ module _ (m : Machine) (e : rules m ≡ true) where
 
   pub sound-shared : length (m .shared) ≡ sharedCount (m .control .irqs)
   sound-shared = rules-parts m e .shared
+
+  -- the last bank has no bit past its interrupts; before INIT no bank and no STATUSR was written
+  pub sound-last : BankFits (bankBits 30) (getD (m .shared) 30 noBank)
+  unfolding lastOk
+  sound-last = fits-parts (bankBits 30) (getD (m .shared) 30 noBank) (rules-parts m e .last)
+
+  pub sound-untouched : (m .control .init ≡ 1 → ⊥) → UntouchedParts m
+  sound-untouched n = untouched-parts m (rules-parts m e .untouched) n
 
   pub sound-its-base : m .control .itsinit ≡ 1 → m .frames .its .set ≡ 1
   sound-its-base h = omega (arith, its-parts m (rules-parts m e .its), sound-its .mark)

@@ -5,7 +5,7 @@ use mathlib.Core.Path.{_≡_, refl, ap}
 use mathlib.Core.Logic.{_⊎_, inl, inr}
 use mathlib.Core.Bool.{true, not}
 use mathlib.Core.List.{List, [], _∷_}
-use lib.ListN.{length}
+use lib.ListN.{length, getD}
 use borrow.Author.Tests.{eqb-false, ne-eqb, not-true}
 use Rattle.lists.proofs.All.{All, from-all, to-all}
 use Rattle.lists.proofs.Member.{all-weaker}
@@ -14,9 +14,10 @@ use Rattle.areas.proofs.Tests.{lt-or-ge, and-left, and-right, join, not-holds}
 use Rattle.areas.proofs.Has.{has-none, none-has}
 use Rattle.areas.proofs.Laws.{Clear, clear-overlaps, overlaps-clear, apart-says, apart-is}
 use Rattle.guest.specs.declared.Vcpu.{Vcpu}
-use Rattle.guest.specs.Machine.{Machine, sharedCount}
+use Rattle.guest.specs.Machine.{Machine, noBank, sharedCount, bankBits}
+use Rattle.guest.specs.Words.{BankFits}
 use Rattle.rules.specs.Standing.{standing, runSize, distributorSize, itsSize}
-use Rattle.rules.specs.Rules.{limitOf, hasAffinity, taken, distinct, regionOk, vcpuOk, tableArea, rules}
+use Rattle.rules.specs.Rules.{limitOf, hasAffinity, taken, distinct, regionOk, vcpuOk, lastOk, freshBank, freshVcpu, tableArea, rules}
 use Rattle.rules.proofs.Parts.{
   MemoryParts,
   IrqsParts,
@@ -25,6 +26,8 @@ use Rattle.rules.proofs.Parts.{
   RegionParts,
   InitParts,
   VcpuParts,
+  Fresh,
+  NewParts,
   TableParts,
   memory-whole,
   control-whole,
@@ -36,6 +39,12 @@ use Rattle.rules.proofs.Parts.{
   vcpu-parts,
   vcpu-whole,
   vcpus-whole,
+  fits-whole,
+  fresh-parts,
+  fresh-whole,
+  new-parts,
+  new-whole,
+  untouched-whole,
   table-whole,
   tables-whole,
   its-whole,
@@ -53,6 +62,8 @@ use Rattle.rules.proofs.Facts.{
   sound-init,
   sound-vcpus,
   sound-shared,
+  sound-last,
+  sound-untouched,
   sound-its-base,
   sound-tables,
   sound-devices,
@@ -78,6 +89,12 @@ distinct-is (v ∷ vs) (before a p) =
     join (not (taken vs (v .affinity))) (distinct vs ∷ [])
     (not-holds (none-has (hasAffinity (v .affinity)) vs (all-weaker (λ w f. ne-eqb (w .affinity) (v .affinity) f) vs a)), distinct-is vs p)
 
+-- before INIT no bank and no STATUSR was written
+pub record Untouched (m : Machine) : Type 0 where
+  pub status : m .control .status ≡ 0
+  pub vcpus : All NewParts (m .vcpus)
+  pub shared : All (Fresh 0) (m .shared)
+
 pub record GuestRules (m : Machine) : Type 0 where
   pub memory : MemoryParts (m .memory)
   pub control : ControlParts (m .control)
@@ -95,6 +112,9 @@ pub record GuestRules (m : Machine) : Type 0 where
   pub few-vcpus : length (m .vcpus) ≤ 64
   pub vcpus : All VcpuParts (m .vcpus)
   pub affinities : Pairs Differ (m .vcpus)
+  -- banks: with 1,024 interrupts the words of INTIDs 992 on have 28 bits; before INIT all are fresh
+  pub last : BankFits 28 (getD (m .shared) 30 noBank)
+  pub before : m .control .init ≡ 0 → Untouched m
   -- what INIT and ITS INIT need
   pub init : m .control .init ≡ 1 → InitParts m
   pub its-init : m .control .itsinit ≡ 1 → m .frames .its .set ≡ 1
@@ -106,7 +126,17 @@ pub record GuestRules (m : Machine) : Type 0 where
   pub clear : Clear (tableArea (m .tables .devices)) (tableArea (m .tables .collections))
 
 module _ (m : Machine) where
+  untouched-says : rules m ≡ true → m .control .init ≡ 0 → Untouched m
+  untouched-says e z =
+      let p = sound-untouched m e (λ i. omega arith) in
+      record {
+        status = p .status;
+        vcpus = all-weaker new-parts (m .vcpus) (from-all freshVcpu (m .vcpus) (p .vcpus));
+        shared = all-weaker fresh-parts (m .shared) (from-all freshBank (m .shared) (p .shared));
+      }
+
   pub rules-say : rules m ≡ true → GuestRules m
+  unfolding bankBits
   rules-say e =
       let f = sound-frames m e in
       let v = sound-vcpus m e in
@@ -126,6 +156,8 @@ module _ (m : Machine) where
         few-vcpus = v .few;
         vcpus = all-weaker vcpu-parts (m .vcpus) (from-all vcpuOk (m .vcpus) (v .each));
         affinities = distinct-says (m .vcpus) (v .distinct);
+        last = sound-last m e;
+        before = untouched-says e;
         init = sound-init m e;
         its-init = sound-its-base m e;
         devices = sound-devices m e;
@@ -143,6 +175,7 @@ module _ (m : Machine) where
       by (inr p) = omega arith
 
   pub rules-are : GuestRules m → rules m ≡ true
+  unfolding lastOk bankBits
   rules-are r = rules-whole m (record {
     memory = memory-whole (m .memory) (r .memory);
     control = control-whole (m .control) (r .control);
@@ -162,6 +195,14 @@ module _ (m : Machine) where
       distinct = distinct-is (m .vcpus) (r .affinities);
     });
     shared = r .shared;
+    last = fits-whole 28 (getD (m .shared) 30 noBank) (r .last);
+    untouched = untouched-whole m (λ n.
+        let p = r .before (omega (arith, r .control .init, n)) in
+        record {
+          status = p .status;
+          vcpus = to-all freshVcpu (m .vcpus) (all-weaker new-whole (m .vcpus) (p .vcpus));
+          shared = to-all freshBank (m .shared) (all-weaker fresh-whole (m .shared) (p .shared));
+        });
     its = its-whole m (its-ready (m .control .itsinit) (m .control .init) (m .frames .its .set) (r .control .itsinit) (r .control .init) (r .its-init));
     tables = tables-whole m (record {
       devices = table-whole (m .memory) (m .tables .devices) (r .devices);

@@ -16,11 +16,13 @@ use Rattle.guest.specs.declared.Memory.{Memory}
 use Rattle.guest.specs.declared.Control.{Control}
 use Rattle.guest.specs.declared.Frame.{Frame}
 use Rattle.guest.specs.declared.Region.{Region}
+use Rattle.guest.specs.declared.Bank.{Bank}
 use Rattle.guest.specs.declared.Vcpu.{Vcpu}
 use Rattle.guest.specs.declared.Table.{Table}
 use Rattle.guest.specs.Machine.{Machine, initialised, isSet, sharedCount}
+use Rattle.guest.specs.Words.{BankFits}
 use Rattle.rules.specs.Standing.{standing, runSize, total, distributorSize, itsSize}
-use Rattle.rules.specs.Rules.{memoryOk, irqsOk, controlOk, frameOk, regionOk, limitOf, framesOk, initOk, distinct, vcpuOk, vcpusOk, tableArea, memoryArea, tableOk, tablesOk, itsOk, rules}
+use Rattle.rules.specs.Rules.{memoryOk, irqsOk, controlOk, frameOk, regionOk, limitOf, framesOk, initOk, distinct, vcpuOk, vcpusOk, bankFits, lastOk, freshBank, freshVcpu, untouched, tableArea, memoryArea, tableOk, tablesOk, itsOk, rules}
 
 -- a test that is asked only where a mark is set
 chosen : (b : Bool) {x : Bool} → choose b x true ≡ true → b ≡ true → x ≡ true
@@ -371,6 +373,100 @@ module _ (vs : List Vcpu) where
   unfolding vcpusOk
   vcpus-whole p = join (leb (length vs) 64) (all vcpuOk vs ∷ distinct vs ∷ []) (le-leb (length vs) 64 (p .few), (p .each, p .distinct))
 
+-- a bank of so many interrupts
+module _ (bits : ℕ) (b : Bank) where
+  abbrev fitsTests : List Bool
+  fitsTests = ltb (b .level) (2 ^ bits) ∷ ltb (b .trigger) (2 ^ bits) ∷ []
+
+  pub fits-parts : bankFits bits b ≡ true → BankFits bits b
+  unfolding bankFits
+  fits-parts e =
+      let p = split (ltb (b .latch) (2 ^ bits)) fitsTests e in
+      record {
+        latch = ltb-true (b .latch) (2 ^ bits) (p .0);
+        level = ltb-true (b .level) (2 ^ bits) (p .1 .0);
+        trigger = ltb-true (b .trigger) (2 ^ bits) (p .1 .1);
+      }
+
+  pub fits-whole : BankFits bits b → bankFits bits b ≡ true
+  unfolding bankFits
+  fits-whole p =
+      join (ltb (b .latch) (2 ^ bits)) fitsTests
+      (lt-ltb (b .latch) (2 ^ bits) (p .latch), (lt-ltb (b .level) (2 ^ bits) (p .level), lt-ltb (b .trigger) (2 ^ bits) (p .trigger)))
+
+-- a fresh bank, of this trigger word
+pub record Fresh (word : ℕ) (b : Bank) : Type 0 where
+  pub latch : b .latch ≡ 0
+  pub level : b .level ≡ 0
+  pub trigger : b .trigger ≡ word
+
+module _ (word : ℕ) (b : Bank) where
+  abbrev wordsTests : List Bool
+  wordsTests = eqb (b .level) 0 ∷ eqb (b .trigger) word ∷ []
+
+  words-parts : conj (eqb (b .latch) 0) wordsTests ≡ true → Fresh word b
+  words-parts e =
+      let p = split (eqb (b .latch) 0) wordsTests e in
+      record { latch = eqb-true (b .latch) 0 (p .0); level = eqb-true (b .level) 0 (p .1 .0); trigger = eqb-true (b .trigger) word (p .1 .1) }
+
+  words-whole : Fresh word b → conj (eqb (b .latch) 0) wordsTests ≡ true
+  words-whole p =
+      join (eqb (b .latch) 0) wordsTests (eq-eqb (b .latch) 0 (p .latch), (eq-eqb (b .level) 0 (p .level), eq-eqb (b .trigger) word (p .trigger)))
+
+module _ (b : Bank) where
+  pub fresh-parts : freshBank b ≡ true → Fresh 0 b
+  unfolding freshBank
+  fresh-parts e = words-parts 0 b e
+
+  pub fresh-whole : Fresh 0 b → freshBank b ≡ true
+  unfolding freshBank
+  fresh-whole p = words-whole 0 b p
+
+-- a VCPU with a fresh bank, its SGIs edge
+pub record NewParts (v : Vcpu) : Type 0 where
+  pub status : v .status ≡ 0
+  pub bank : Fresh 65535 (v .bank)
+
+module _ (v : Vcpu) where
+  abbrev newTests : List Bool
+  newTests = conj (eqb (v .bank .latch) 0) (wordsTests 65535 (v .bank)) ∷ []
+
+  pub new-parts : freshVcpu v ≡ true → NewParts v
+  unfolding freshVcpu
+  new-parts e =
+      let p = split (eqb (v .status) 0) newTests e in
+      record { status = eqb-true (v .status) 0 (p .0); bank = words-parts 65535 (v .bank) (p .1) }
+
+  pub new-whole : NewParts v → freshVcpu v ≡ true
+  unfolding freshVcpu
+  new-whole p = join (eqb (v .status) 0) newTests (eq-eqb (v .status) 0 (p .status), words-whole 65535 (v .bank) (p .bank))
+
+-- before INIT
+pub record UntouchedParts (m : Machine) : Type 0 where
+  pub status : m .control .status ≡ 0
+  pub vcpus : all freshVcpu (m .vcpus) ≡ true
+  pub shared : all freshBank (m .shared) ≡ true
+
+module _ (m : Machine) where
+  abbrev untouchedTests : List Bool
+  untouchedTests = all freshVcpu (m .vcpus) ∷ all freshBank (m .shared) ∷ []
+
+  pub untouched-parts : untouched m ≡ true → (m .control .init ≡ 1 → ⊥) → UntouchedParts m
+  unfolding untouched
+  untouched-parts e n =
+      let p = split (eqb (m .control .status) 0) untouchedTests (rw (ne-eqb (m .control .init) 1 n) at e) in
+      record { status = eqb-true (m .control .status) 0 (p .0); vcpus = p .1 .0; shared = p .1 .1 }
+
+  pub untouched-whole : ((m .control .init ≡ 1 → ⊥) → UntouchedParts m) → untouched m ≡ true
+  unfolding untouched
+  untouched-whole f = go (initialised m) refl
+    where
+      go : (b : Bool) → initialised m ≡ b → choose b true (conj (eqb (m .control .status) 0) untouchedTests) ≡ true
+      go true q = refl
+      go false q =
+          let p = f (eqb-false (m .control .init) 1 q) in
+          join (eqb (m .control .status) 0) untouchedTests (eq-eqb (m .control .status) 0 (p .status), (p .vcpus, p .shared))
+
 -- a table whose place may be unset
 pub record TableParts (r : Memory) (t : Table) : Type 0 where
   pub mark : t .set ≤ 1
@@ -489,6 +585,8 @@ pub record Parts (m : Machine) : Type 0 where
   pub init : initOk m ≡ true
   pub vcpus : vcpusOk (m .vcpus) ≡ true
   pub shared : length (m .shared) ≡ sharedCount (m .control .irqs)
+  pub last : lastOk (m .shared) ≡ true
+  pub untouched : untouched m ≡ true
   pub its : itsOk m ≡ true
   pub tables : tablesOk m ≡ true
 
@@ -496,7 +594,7 @@ module _ (m : Machine) where
   abbrev ruleTests : List Bool
   ruleTests =
       controlOk (m .control) ∷ framesOk m ∷ initOk m ∷ vcpusOk (m .vcpus)
-      ∷ eqb (length (m .shared)) (sharedCount (m .control .irqs)) ∷ itsOk m ∷ tablesOk m ∷ []
+      ∷ eqb (length (m .shared)) (sharedCount (m .control .irqs)) ∷ lastOk (m .shared) ∷ untouched m ∷ itsOk m ∷ tablesOk m ∷ []
 
   pub rules-parts : rules m ≡ true → Parts m
   unfolding rules
@@ -509,8 +607,10 @@ module _ (m : Machine) where
         init = p .1 .1 .1 .0;
         vcpus = p .1 .1 .1 .1 .0;
         shared = eqb-true (length (m .shared)) (sharedCount (m .control .irqs)) (p .1 .1 .1 .1 .1 .0);
-        its = p .1 .1 .1 .1 .1 .1 .0;
-        tables = p .1 .1 .1 .1 .1 .1 .1;
+        last = p .1 .1 .1 .1 .1 .1 .0;
+        untouched = p .1 .1 .1 .1 .1 .1 .1 .0;
+        its = p .1 .1 .1 .1 .1 .1 .1 .1 .0;
+        tables = p .1 .1 .1 .1 .1 .1 .1 .1 .1;
       }
 
   pub rules-whole : Parts m → rules m ≡ true
@@ -526,7 +626,10 @@ module _ (m : Machine) where
               p .init,
               (
                 p .vcpus,
-                (eq-eqb (length (m .shared)) (sharedCount (m .control .irqs)) (p .shared), (p .its, p .tables)),
+                (
+                  eq-eqb (length (m .shared)) (sharedCount (m .control .irqs)) (p .shared),
+                  (p .last, (p .untouched, (p .its, p .tables))),
+                ),
               ),
             ),
           ),

@@ -7,7 +7,7 @@ use lib.ListN.{replicate}
 use Rattle.lists.specs.Rows.{all, findIx}
 use Rattle.fields.specs.Field.{getField}
 use Rattle.areas.specs.Area.{overlaps, endsBy, inside, struck, strikes, apart}
-use Rattle.guest.specs.Machine.{Machine, fresh, noBank, noVcpu}
+use Rattle.guest.specs.Machine.{Machine, fresh, noBank, noVcpu, bankBits}
 use Rattle.rules.specs.Standing.{standing, total}
 use Rattle.rules.specs.Rules.{
   memoryOk,
@@ -21,6 +21,11 @@ use Rattle.rules.specs.Rules.{
   distinct,
   vcpuOk,
   vcpusOk,
+  bankFits,
+  lastOk,
+  freshBank,
+  freshVcpu,
+  untouched,
   tableOk,
   tablesOk,
   itsOk,
@@ -29,10 +34,10 @@ use Rattle.rules.specs.Rules.{
 use Rattle.rules.proofs.Parts.{rules-whole}
 
 pub fresh-sound : (width start size : ℕ) → memoryOk (record { width = width; start = start; length = size }) ≡ true → rules (fresh width start size) ≡ true
-unfolding irqsOk controlOk frameOk all framesOk apart standing initOk vcpusOk distinct tableOk overlaps tablesOk itsOk
+unfolding irqsOk controlOk frameOk all framesOk apart standing initOk vcpusOk distinct bankFits lastOk bankBits freshBank freshVcpu untouched tableOk overlaps tablesOk itsOk
 fresh-sound width start size e =
     rules-whole (fresh width start size)
-    (record { memory = e; control = refl; frames = refl; init = refl; vcpus = refl; shared = refl; its = refl; tables = refl })
+    (record { memory = e; control = refl; frames = refl; init = refl; vcpus = refl; shared = refl; last = refl; untouched = refl; its = refl; tables = refl })
 
 -- three VCPUs in the two regions of §12.5, the ITS frame at a given place, both tables placed, the VCPUs running
 abbrev sample : ℕ → Machine
@@ -54,10 +59,10 @@ sample its = record {
 }
 
 pub sample-sound : rules (sample 0x8120000) ≡ true
-unfolding rules memoryOk irqsOk controlOk frameOk regionOk endsBy all framesOk apart strikes struck overlaps findIx standing total initOk vcpuOk vcpusOk taken distinct tableOk inside tablesOk itsOk getField
+unfolding rules memoryOk irqsOk controlOk frameOk regionOk endsBy all framesOk apart strikes struck overlaps findIx standing total initOk vcpuOk vcpusOk taken distinct bankFits lastOk bankBits untouched tableOk inside tablesOk itsOk getField
 sample-sound = refl
 
 -- §12.1: the second region ends at 0x08120000: a frame that starts 64 KiB before that overlaps it
 pub sample-unsound : rules (sample 0x8110000) ≡ false
-unfolding rules memoryOk irqsOk controlOk frameOk regionOk endsBy all framesOk apart strikes struck overlaps findIx standing total initOk vcpuOk vcpusOk taken distinct tableOk inside tablesOk itsOk getField
+unfolding rules memoryOk irqsOk controlOk frameOk regionOk endsBy all framesOk apart strikes struck overlaps findIx standing total initOk vcpuOk vcpusOk taken distinct bankFits lastOk bankBits untouched tableOk inside tablesOk itsOk getField
 sample-unsound = refl

@@ -3,7 +3,7 @@ use Prim.Native.Nat.{ℕ, _+_, _*_, _%_, _^_}
 use mathlib.Core.Path.{_≡_}
 use mathlib.Core.Bool.{Bool, true, _&&_, _||_, not}
 use mathlib.Core.List.{List, [], _∷_}
-use lib.ListN.{length}
+use lib.ListN.{length, getD}
 use lib.Dec.{ltb, leb, eqb}
 use Rattle.lists.specs.Rows.{choose, findIx, all}
 use Rattle.fields.specs.Field.{getField}
@@ -13,10 +13,11 @@ use Rattle.guest.specs.declared.Memory.{Memory}
 use Rattle.guest.specs.declared.Control.{Control}
 use Rattle.guest.specs.declared.Frame.{Frame}
 use Rattle.guest.specs.declared.Region.{Region}
+use Rattle.guest.specs.declared.Bank.{Bank}
 use Rattle.guest.specs.declared.Vcpu.{Vcpu}
 use Rattle.guest.specs.declared.Table.{Table}
 use Rattle.guest.specs.declared.Guest.{Guest}
-use Rattle.guest.specs.Machine.{Machine, Held, view, initialised, isSet, sharedCount}
+use Rattle.guest.specs.Machine.{Machine, Held, view, initialised, isSet, noBank, noVcpu, sharedCount, bankBits}
 use Rattle.rules.specs.Standing.{standing, runSize, regionArea, total, distributorSize, itsSize}
 
 -- §1.4, §1.9: what set-up asks of the width p and of the run of memory, and each state keeps; 1,073,741,824 is 2^30
@@ -95,6 +96,32 @@ vcpuOk v =
 unfoldable pub vcpusOk : List Vcpu → Bool
 vcpusOk vs = leb (length vs) 64 && (all vcpuOk vs && distinct vs)
 
+-- §1.15: each word of a bank has at most so many bits
+unfoldable pub bankFits : ℕ → Bank → Bool
+bankFits bits b = ltb (b .latch) (2 ^ bits) && (ltb (b .level) (2 ^ bits) && ltb (b .trigger) (2 ^ bits))
+
+-- §1.15, §4.17: the words of the last bank, row 30, have no bit past its interrupts. With fewer than 1,024 there is no such row, and nothing is
+-- asked; the words of the other banks have 32 bits in the bytes (§1.7), which are as many as these banks have interrupts.
+unfoldable pub lastOk : List Bank → Bool
+lastOk bs = bankFits (bankBits 30) (getD bs 30 noBank)
+
+-- Notation: a bank has the words of another one
+abbrev pub sameBank : Bank → Bank → Bool
+sameBank b c = eqb (b .latch) (c .latch) && (eqb (b .level) (c .level) && eqb (b .trigger) (c .trigger))
+
+-- §1.16, §4.3: a shared bank that is fresh; a VCPU with a fresh bank and STATUSR 0
+unfoldable pub freshBank : Bank → Bool
+freshBank b = sameBank b noBank
+
+unfoldable pub freshVcpu : Vcpu → Bool
+freshVcpu v = eqb (v .status) 0 && sameBank (v .bank) (noVcpu 0 .bank)
+
+-- §1.16: before VGIC INIT every STATUSR is 0 and every bank is fresh
+unfoldable pub untouched : Machine → Bool
+untouched m =
+    choose (initialised m) true
+    (eqb (m .control .status) 0 && (all freshVcpu (m .vcpus) && all freshBank (m .shared)))
+
 -- §5.4: the bytes of a table: pages of 4 KiB from its start on
 abbrev pub tableArea : Table → Area
 tableArea t = record { start = t .start; size = 4096 * t .pages }
@@ -123,12 +150,13 @@ tablesOk m =
 unfoldable pub itsOk : Machine → Bool
 itsOk m = leb (m .control .itsinit) (m .frames .its .set)
 
--- §1.9 to §1.13: all of them but the limits of the mapping's rows; and the shared banks are those that the interrupt count has (§4.2),
--- which holds of all bytes, since they are read so
+-- §1.9 to §1.13, §1.15, §1.16: all of them but the limits of the mapping's rows; and the shared banks are those that the interrupt count
+-- has (§4.2), which holds of all bytes, since they are read so
 unfoldable pub rules : Machine → Bool
 rules m =
     memoryOk (m .memory) && (controlOk (m .control) && (framesOk m && (initOk m && (vcpusOk (m .vcpus)
-    && (eqb (length (m .shared)) (sharedCount (m .control .irqs)) && (itsOk m && tablesOk m))))))
+    && (eqb (length (m .shared)) (sharedCount (m .control .irqs)) && (lastOk (m .shared) && (untouched m
+    && (itsOk m && tablesOk m))))))))
 
 -- Inner: what the code knows of a guest that passed the test
 pub record Kept (g : Guest) : Type 0 where

@@ -8,6 +8,7 @@ use Rattle.runs.specs.Order.{order}
 use Rattle.runs.specs.Frames.{frames}
 use Rattle.runs.specs.Banks.{banks}
 use Rattle.runs.specs.Limits.{limits}
+use Rattle.runs.specs.Broken.{Broken}
 use Rattle.runs.specs.Runs.{GuestRuns}
 
 by-short : Runs wrongLength (zeros 11399)
@@ -38,6 +39,21 @@ by-limits : Runs limits unmade
 unfolding computed
 by-limits = refl
 
+by-broken : Broken
+unfolding computed
+by-broken = record {
+  latch = (refl, refl);
+  level = (refl, refl);
+  trigger = (refl, refl);
+  before = refl;
+  status = (refl, refl);
+  own = (refl, refl, refl, refl, refl);
+  ownLater = (refl, refl, refl, refl);
+  shared = (refl, refl, refl, refl);
+  sharedLater = (refl, refl, refl, refl);
+  behind = (refl, refl, refl);
+}
+
 pub guest-runs : GuestRuns
 guest-runs = record {
   lengths = (by-short, by-over);
@@ -46,4 +62,5 @@ guest-runs = record {
   frames = by-frames;
   banks = by-banks;
   limits = by-limits;
+  broken = by-broken;
 }

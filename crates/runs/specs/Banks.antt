@@ -186,17 +186,58 @@ registers =
     ∷ irqPending 0 33 ⇒ done 1
     ∷ []
 
--- §4.9: with a count of 1,024 the bank of INTIDs 992 to 1,023, all 32 of them
+-- Notation: a guest with 1,024 interrupts, INIT done
+abbrev pub wide : List Row
+wide = setup 40 0x40000000 0x4000 ⇒ done 0 ∷ with (vgicSet 3 0) (word 1024) (done 0) ∷ ready
+
+-- §4.17: with a count of 1,024 the bank of INTIDs 992 to 1,019, of which 1,020 to 1,023 are no part
 abbrev pub last : List Row
 last =
-    setup 40 0x40000000 0x4000 ⇒ done 0
-    ∷ with (vgicSet 3 0) (word 1024) (done 0)
-    ∷ ready
+    wide
+    -- a latch word keeps 28 bits; the bank before it keeps 32
     ++ with (vgicSet 1 0x27C) (word 0xFFFFFFFF) (done 0)
-    ∷ writes (vgicGet 1 0x27C) (word 7) (done 0) (word 0xFFFFFFFF)
-    ∷ irqClearPending 0 1022 ⇒ done 0
-    ∷ irqPending 0 1022 ⇒ done 0
-    ∷ irqPending 0 1023 ⇒ done 1
+    ∷ writes (vgicGet 1 0x27C) (word 7) (done 0) (word 0xFFFFFFF)
+    ∷ with (vgicSet 1 0x278) (word 0xFFFFFFFF) (done 0)
+    ∷ writes (vgicGet 1 0x278) (word 7) (done 0) (word 0xFFFFFFFF)
+    ∷ irqPending 0 991 ⇒ done 1
+    ∷ irqPending 0 1019 ⇒ done 1
+    ∷ irqPending 0 1020 ⇒ done 0
+    ∷ irqPending 0 1023 ⇒ done 0
+    -- set, clear and activate of the last interrupt, and of what is none
+    ∷ irqClearPending 0 1019 ⇒ done 0
+    ∷ irqPending 0 1019 ⇒ done 0
+    ∷ irqSetPending 0 1019 ⇒ done 0
+    ∷ irqActivate 0 1018 ⇒ done 0
+    ∷ irqSetPending 0 1020 ⇒ done 0
+    ∷ irqPending 0 1020 ⇒ done 0
+    ∷ irqClearPending 0 1021 ⇒ done 0
+    ∷ irqActivate 0 1022 ⇒ done 0
+    ∷ irqSetPending 0 1023 ⇒ done 0
+    ∷ writes (vgicGet 1 0x27C) (word 7) (done 0) (word 0xBFFFFFF)
+    -- a trigger word that names 1,021 makes 1,019 edge: its rise is latched, and a rise of 1,020 is not
+    ∷ with (vgicSet 1 0x27C) (word 0) (done 0)
+    ∷ irqTrigger 0 1021 0xFFFFFFFF ⇒ done 0
+    ∷ irqLine 0 1019 1 ⇒ done 0
+    ∷ irqLine 0 1020 1 ⇒ done 0
+    ∷ irqLine 0 1019 0 ⇒ done 0
+    ∷ irqPending 0 1019 ⇒ done 1
+    ∷ irqPending 0 1020 ⇒ done 0
+    ∷ writes (vgicGet 1 0x27C) (word 7) (done 0) (word 0x8000000)
+    -- with trigger word 0, of level interrupts, a line of 1,023 that is up is not pending either
+    ∷ irqTrigger 0 1019 0 ⇒ done 0
+    ∷ irqLine 0 1023 1 ⇒ done 0
+    ∷ irqPending 0 1023 ⇒ done 0
+    -- a level word keeps 28 bits, and that of the bank before it 32
+    ∷ writes (vgicGet 7 0x3E0) (word 7) (done 0) (word 0)
+    ∷ with (vgicSet 7 0x3E0) (word 0xFFFFFFFF) (done 0)
+    ∷ writes (vgicGet 7 0x3E0) (word 7) (done 0) (word 0xFFFFFFF)
+    ∷ with (vgicSet 7 0x3C0) (word 0xFFFFFFFF) (done 0)
+    ∷ writes (vgicGet 7 0x3C0) (word 7) (done 0) (word 0xFFFFFFFF)
+    ∷ writes (vgicGet 1 0x2FC) (word 7) (done 0) (word 0)
+    -- §4.8: what is refused of the others is refused of the four
+    ∷ irqLine 0 1020 2 ⇒ refusal 22
+    ∷ irqSetPending 2 1023 ⇒ refusal 22
+    ∷ irqPending 0 1024 ⇒ refusal 22
     ∷ []
 
 -- Notation: the lists above, one behind the other; the last has a guest of its own

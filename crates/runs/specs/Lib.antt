@@ -3,4 +3,5 @@ pub mod Order
 pub mod Frames
 pub mod Banks
 pub mod Limits
+pub mod Broken
 pub mod Runs

@@ -7,6 +7,7 @@ use Rattle.runs.specs.Order.{order}
 use Rattle.runs.specs.Frames.{frames}
 use Rattle.runs.specs.Banks.{banks}
 use Rattle.runs.specs.Limits.{limits}
+use Rattle.runs.specs.Broken.{Broken}
 
 -- §10.9: each list of calls does on its state what is written beside it
 pub record GuestRuns : Type 0 where
@@ -18,3 +19,5 @@ pub record GuestRuns : Type 0 where
   pub frames : Runs frames unmade
   pub banks : Runs banks unmade
   pub limits : Runs limits unmade
+  -- §1.15, §1.16: the states are made by calls, and then one byte is changed
+  pub broken : Broken

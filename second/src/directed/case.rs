@@ -3,7 +3,7 @@
 #[cfg(feature = "restore")]
 use crate::call::restore_answer;
 use crate::call::{Call, Device};
-use crate::sides::Side;
+use crate::sides::{Held, Side};
 
 pub struct Case<'a> {
     side: &'a mut dyn Side,
@@ -11,6 +11,8 @@ pub struct Case<'a> {
     pub notes: Vec<String>,
     /// What explain answered before each restore.
     pub explained: Vec<i64>,
+    /// What every call must leave as it is, for a while.
+    still: Option<Held>,
 }
 
 pub const VGIC: Device = Device::Vgic;
@@ -18,7 +20,7 @@ pub const ITS: Device = Device::Its;
 
 impl<'a> Case<'a> {
     pub fn new(side: &'a mut dyn Side) -> Case<'a> {
-        Case { side, step: 0, notes: Vec::new(), explained: Vec::new() }
+        Case { side, step: 0, notes: Vec::new(), explained: Vec::new(), still: None }
     }
 
     fn note(&mut self, call: &Call, complaint: &str) {
@@ -30,6 +32,9 @@ impl<'a> Case<'a> {
         let answer = self.side.call(call, lent, &mut complaints);
         self.step += 1;
         complaints.iter().for_each(|complaint| self.note(call, complaint));
+        if self.still.as_ref().is_some_and(|before| *before != self.side.held()) {
+            self.note(call, "it changed the state");
+        }
         answer
     }
 
@@ -60,6 +65,13 @@ impl<'a> Case<'a> {
 
     pub fn expect(&mut self, call: Call, want: i64) {
         self.lent(call, &[], want);
+    }
+
+    /// Calls that may be accepted, but change nothing: after each of them the state is what it was, to the last byte.
+    pub fn idle(&mut self, calls: impl FnOnce(&mut Case<'a>)) {
+        self.still = Some(self.side.held());
+        calls(self);
+        self.still = None;
     }
 
     pub fn setup(&mut self, width: u64, start: u64, length: u64, want: i64) {

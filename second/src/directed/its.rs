@@ -27,6 +27,7 @@ pub const CASES: &[(&str, fn(&mut Case))] = &[
     ("§5.12 move gives the event another collection", moves),
     ("§5.14 RESET: -6, running -16, then empty and not placed", reset),
     ("§5.3 placing and commands work while running", running),
+    ("§10.10, §4.17 set, clear, activate and line of INTIDs 1,020 to 1,023 leave a mapping", special_intids),
 ];
 
 pub const MEMORY: u64 = 0x4000_0000;
@@ -495,6 +496,25 @@ fn reset(c: &mut Case) {
     c.no_collection(7, -2);
     c.its_init(0);
     c.device(3, MEMORY + 0x2000, 5, 0);
+}
+
+fn special_intids(c: &mut Case) {
+    c.put(3, 0, 1024, 0);
+    c.its_placed(1);
+    c.collection(7, 1, 0);
+    c.device(3, MEMORY + 0x2000, 5, 0);
+    c.event(3, 1, 8192, 7, 0);
+    c.trigger(0, 1023, u32::MAX, 0);
+    for intid in 1020..1024 {
+        c.idle(|c| {
+            c.raise(0, intid, 0);
+            c.line(1, intid, 1, 0);
+            c.clear(2, intid, 0);
+            c.activate(3, intid, 0);
+            c.line(0, intid, 0, 0);
+            c.lookup(3, 1, 8192 + 65_536);
+        });
+    }
 }
 
 fn running(c: &mut Case) {

@@ -19,6 +19,7 @@ mod restore;
 mod save;
 #[cfg(feature = "its")]
 mod sound;
+mod special;
 pub mod xics;
 
 use crate::call::{Call, Device};
@@ -35,6 +36,7 @@ fn all() -> Vec<Row> {
     rows.extend_from_slice(numbers::CASES);
     rows.extend_from_slice(frames::CASES);
     rows.extend_from_slice(banks::CASES);
+    rows.extend_from_slice(special::CASES);
     #[cfg(feature = "its")]
     rows.extend_from_slice(its::CASES);
     #[cfg(feature = "its")]

@@ -157,7 +157,7 @@ impl Guest {
         Ok(0)
     }
 
-    /// §3.14. A guest that was taken over from bytes may have had shared banks that were not fresh: now they are.
+    /// §3.14.
     fn set_count(&mut self, number: u64) -> Answer {
         refuse_if(number < 64 || number > 1024 || number % 32 != 0, Refusal::Invalid)?;
         refuse_if(self.count_set || self.initialised, Refusal::Busy)?;

@@ -5,6 +5,8 @@ use super::guest::Guest;
 
 /// §4.3: INTIDs 0 to 15.
 pub const SGIS: u32 = 16;
+/// §4.17: INTIDs from here to 1,023 are special numbers and no interrupts, whatever the count is.
+const SPECIAL: u32 = 1020;
 
 /// §4.1: one bit of each of a bank's three words.
 #[derive(Clone, Copy, PartialEq, Eq, Debug, Default)]
@@ -30,9 +32,15 @@ pub fn fresh_private() -> [Irq; 32] {
     std::array::from_fn(|intid| Irq { edge: (intid as u32) < SGIS, ..Irq::default() })
 }
 
+/// §4.2, §4.17: how many interrupts a bank has. Those that are none have no place in a guest, so that no call can reach
+/// them.
+pub fn interrupts(bank: u32) -> usize {
+    32.min(SPECIAL - 32 * bank) as usize
+}
+
 /// §4.3: all the shared banks below this count.
-pub fn fresh_shared(count: u32) -> Vec<Irq> {
-    vec![Irq::default(); count as usize - 32]
+pub fn fresh_shared(count: u32) -> Vec<Vec<Irq>> {
+    (1..count / 32).map(|bank| vec![Irq::default(); interrupts(bank)]).collect()
 }
 
 /// §4.1: bit n is that of the bank's interrupt n.
@@ -50,7 +58,7 @@ impl Guest {
     pub fn bank(&self, vcpu: usize, bank: u32) -> Option<&[Irq]> {
         match bank {
             0 => Some(&self.vcpus[vcpu].irqs),
-            n if n * 32 < self.count => Some(&self.shared[n as usize * 32 - 32..n as usize * 32]),
+            n if n * 32 < self.count => Some(&self.shared[n as usize - 1]),
             _ => None,
         }
     }
@@ -59,7 +67,7 @@ impl Guest {
     pub fn bank_mut(&mut self, vcpu: usize, bank: u32) -> Option<&mut [Irq]> {
         match bank {
             0 => Some(&mut self.vcpus[vcpu].irqs),
-            n if n * 32 < self.count => Some(&mut self.shared[n as usize * 32 - 32..n as usize * 32]),
+            n if n * 32 < self.count => Some(&mut self.shared[n as usize - 1]),
             _ => None,
         }
     }
@@ -71,19 +79,22 @@ impl Guest {
         refuse_if(intid > 1023, Refusal::Invalid)
     }
 
-    /// §4.2; none from the count on (§4.9).
-    fn irq_mut(&mut self, vcpu: u64, intid: u64) -> Option<&mut Irq> {
-        let bank = self.bank_mut(vcpu as usize, intid as u32 / 32)?;
-        Some(&mut bank[intid as usize % 32])
+    /// §4.2; none from the count on (§4.9), and none where the INTID is no interrupt (§4.17).
+    fn irq(&self, vcpu: u64, intid: u64) -> Option<&Irq> {
+        let bank = self.bank(vcpu as usize, intid as u32 / 32)?;
+        bank.get(intid as usize % 32)
     }
 
-    /// §4.4, §4.9.
+    /// §4.2, §4.9, §4.17.
+    fn irq_mut(&mut self, vcpu: u64, intid: u64) -> Option<&mut Irq> {
+        let bank = self.bank_mut(vcpu as usize, intid as u32 / 32)?;
+        bank.get_mut(intid as usize % 32)
+    }
+
+    /// §4.4; 0 where there is no interrupt (§4.9, §4.17).
     pub fn pending(&self, vcpu: u64, intid: u64) -> Answer {
         self.check_irq(vcpu, intid)?;
-        match self.bank(vcpu as usize, intid as u32 / 32) {
-            Some(bank) => Ok(bank[intid as usize % 32].pending() as u64),
-            None => Ok(0),
-        }
+        Ok(self.irq(vcpu, intid).is_some_and(Irq::pending) as u64)
     }
 
     /// §4.5: set, clear and activate.
@@ -110,13 +121,13 @@ impl Guest {
         Ok(0)
     }
 
-    /// §4.7: SGIs are passed over.
+    /// §4.7: SGIs are passed over. An INTID that is no interrupt names its bank all the same (§4.17).
     pub fn trigger(&mut self, vcpu: u64, intid: u64, word: u32) -> Answer {
         self.check_irq(vcpu, intid)?;
         let number = intid as u32 / 32;
         let first = if number == 0 { SGIS } else { 0 };
         if let Some(bank) = self.bank_mut(vcpu as usize, number) {
-            for n in first as usize..32 {
+            for n in first as usize..bank.len() {
                 bank[n].edge = bit(word, n);
             }
         }
@@ -128,7 +139,7 @@ impl Guest {
         self.bank(vcpu, bank).map_or(0, |irqs| word_of(irqs, |irq| irq.latch))
     }
 
-    /// §4.13.
+    /// §4.13, §4.17.
     pub fn write_latch_word(&mut self, vcpu: usize, bank: u32, word: u32) {
         for (n, irq) in self.bank_mut(vcpu, bank).unwrap_or_default().iter_mut().enumerate() {
             irq.latch = bit(word, n);
@@ -140,7 +151,7 @@ impl Guest {
         self.bank(vcpu, bank).map_or(0, |irqs| word_of(irqs, |irq| irq.level))
     }
 
-    /// §4.15: no rise is looked for, and SGIs are passed over.
+    /// §4.15, §4.17: no rise is looked for, and SGIs are passed over.
     pub fn write_level_word(&mut self, vcpu: usize, bank: u32, word: u32) {
         let first = if bank == 0 { SGIS as usize } else { 0 };
         for (n, irq) in self.bank_mut(vcpu, bank).unwrap_or_default().iter_mut().enumerate().skip(first) {

@@ -56,8 +56,8 @@ pub struct Guest {
     pub running: bool,
     pub count: u32,
     pub count_set: bool,
-    /// The shared banks, one after the other: INTID 32 is element 0 (§4.2).
-    pub shared: Vec<Irq>,
+    /// The shared banks, that of INTID 32 first, each with its interrupts (§4.2, §4.17).
+    pub shared: Vec<Vec<Irq>>,
     pub status: u32,
     #[cfg(feature = "its")]
     pub its: super::its::Its,

@@ -40,14 +40,15 @@ fn set_up(pair: &mut Pair) {
     pair.make(call, vec![]);
 }
 
-/// The INTIDs and VCPUs that the sequence comes back to: an SGI, PPIs, neighbours in a shared bank, one near the count.
+/// The INTIDs and VCPUs that the sequence comes back to: an SGI, PPIs, neighbours in a shared bank, three of the last
+/// bank. With 1,024 interrupts one of these is at the border to those that are none, and one is none (§4.17).
 pub fn draw_focus(pair: &mut Pair) {
     let count = pair.guest().count as u64;
     let vcpus = pair.guest().vcpus.len() as u64;
     let rng = &mut pair.rng;
     let shared = 32 + rng.below(count - 32);
-    pair.intids =
-        vec![rng.below(16), 16 + rng.below(16), 16 + rng.below(16), shared, shared ^ 1, count - 1 - rng.below(2)];
+    pair.intids = vec![rng.below(16), 16 + rng.below(16), 16 + rng.below(16), shared, shared ^ 1];
+    pair.intids.extend([32, 8, 4].map(|near| count - 1 - rng.below(near)));
     pair.vcpus = vec![rng.below(vcpus), rng.below(vcpus)];
 }
 

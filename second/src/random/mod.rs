@@ -21,6 +21,7 @@ mod observe;
 mod pair;
 mod pick;
 mod plan;
+mod special;
 mod spoil;
 mod taken;
 
@@ -47,6 +48,7 @@ struct Depth {
     full_vcpus: u64,
     full_regions: u64,
     tally: Tally,
+    special: special::Reach,
     #[cfg(feature = "its")]
     tables: [u64; 3],
     #[cfg(feature = "its")]
@@ -62,6 +64,7 @@ impl Depth {
         self.sequences += 1;
         self.calls += pair.step;
         self.tally.add(&pair.tally);
+        self.special.add(&pair.special);
         // A difference at the very first set-up leaves no guest.
         let Some(guest) = &pair.model.guest else { return };
         self.initialised += guest.initialised as u64;
@@ -87,6 +90,7 @@ impl Depth {
             "random: {} calls in {} sequences from seed {seed}; past INIT {}, with 64 VCPUs {}, with 32 regions {}",
             self.calls, self.sequences, self.initialised, self.full_vcpus, self.full_regions
         );
+        self.special.tell();
         #[cfg(feature = "its")]
         println!(
             "random: saves {}, restores accepted {} and refused {}; full collections {}, devices {}, events {}",
@@ -115,6 +119,7 @@ pub fn run(seed: u64, calls: u64, hunt: bool, report: &mut Report) {
     depth.tell(seed);
     if cfg!(feature = "its") && calls >= DEFAULT_CALLS && !hunt {
         check_reach(&depth.tally, report);
+        depth.special.check(report);
         #[cfg(feature = "restore")]
         depth.far.check(report);
         #[cfg(feature = "restore")]

@@ -5,6 +5,7 @@ use super::damage::{agree, Tally};
 use super::explained::Explained;
 #[cfg(feature = "its")]
 use super::far;
+use super::special;
 #[cfg(feature = "restore")]
 use crate::call::restore_answer;
 use crate::call::{Call, ITS_STEPS};
@@ -26,6 +27,8 @@ pub struct Pair {
     pub vcpus: Vec<u64>,
     /// What came of the damaged states.
     pub tally: Tally,
+    /// INTIDs 1,020 to 1,023 and the words of their bank.
+    pub special: special::Reach,
     /// The guest's memory, as the last save left it.
     #[cfg(feature = "its")]
     pub memory: Vec<u8>,
@@ -74,6 +77,7 @@ impl Pair {
             intids: Vec::new(),
             vcpus: Vec::new(),
             tally: Tally::default(),
+            special: special::Reach::default(),
             #[cfg(feature = "its")]
             memory: Vec::new(),
             #[cfg(feature = "its")]
@@ -124,6 +128,7 @@ impl Pair {
     fn make_one(&mut self, call: Call, lent: Vec<u8>) -> Option<(i64, Vec<u8>)> {
         self.step += 1;
         let lent_before = short(&lent);
+        let kind = special::kind(&call, &lent);
         let result = compare(&mut self.model, &mut self.library, &call, lent);
         if self.tell {
             println!("{:5} {call:x?} lent {lent_before} -> {}", self.step, told(&result));
@@ -131,7 +136,10 @@ impl Pair {
         #[cfg(feature = "its")]
         self.see_limits();
         match result {
-            Ok(agreed) => Some(agreed),
+            Ok(agreed) => {
+                self.special.count(kind, agreed.0, &self.model);
+                Some(agreed)
+            }
             Err(note) => {
                 self.differ(&note);
                 None

@@ -168,7 +168,7 @@ fn fresh_affinity(pair: &mut Pair) -> u32 {
 }
 
 fn set_count(pair: &mut Pair) {
-    let number = pair.rng.pick(&[64, 96, 128, 256, 288, 512, 992, 1024, 1024]);
+    let number = pair.rng.pick(&[64, 96, 128, 256, 288, 512, 992, 1024, 1024, 1024, 1024]);
     let number = if pair.rng.one_in(3) { 32 * pair.rng.between(2, 32) } else { number } as u32;
     pair.make(Call::Set { device: Device::Vgic, group: 3, attribute: 0 }, number.to_le_bytes().to_vec());
 }

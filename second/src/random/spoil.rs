@@ -14,8 +14,10 @@ pub fn spoil(rng: &mut Rng, bytes: &mut [u8]) -> String {
 
 fn once(rng: &mut Rng, bytes: &mut [u8]) -> String {
     match rng.below(32) {
-        0..=4 => flip(rng, bytes),
-        5..=14 => field(rng, bytes),
+        0..=3 => flip(rng, bytes),
+        4..=12 => field(rng, bytes),
+        13 => last_bank(rng, bytes),
+        14 => early(rng, bytes),
         15..=17 => count(rng, bytes),
         18..=19 => swap_rows(rng, bytes),
         20..=21 => copy_row(rng, bytes),
@@ -174,6 +176,64 @@ fn take_away(rng: &mut Rng, bytes: &mut [u8]) -> String {
         6 => write(bytes, rng.pick(&[layout::REGIONS.count, layout::VCPUS.count]), 0),
         7 => write(bytes, rng.pick(&[layout::INIT, layout::ITS_INIT]), 0),
         _ => write(bytes, rng.pick(&[layout::INIT, layout::ITS_INIT, layout::RUNNING, layout::IRQS_SET]), 1),
+    }
+}
+
+/// A bit of the field, one of those from `low` to `high`.
+fn bit(rng: &mut Rng, bytes: &mut [u8], field: Field, low: u64, high: u64) -> String {
+    let number = field.get(bytes) ^ 1 << rng.between(low, high);
+    write(bytes, field, number)
+}
+
+/// With 1,024 interrupts a bit at the border of those that §1.15 speaks of, mostly in the last bank.
+fn last_bank(rng: &mut Rng, bytes: &mut [u8]) -> String {
+    if layout::IRQS.get(bytes) != 1024 {
+        return field(rng, bytes);
+    }
+    let row = if rng.one_in(4) { 29 } else { 30 };
+    let word = layout::BANKS.field(row, rng.below(3) as usize);
+    bit(rng, bytes, word, 26, 31)
+}
+
+/// A guest as it is before INIT, and mostly one bit of a bank or a STATUSR that is not fresh (§1.16).
+fn early(rng: &mut Rng, bytes: &mut [u8]) -> String {
+    put_back(bytes);
+    let vcpus = layout::VCPUS.rows(bytes) as u64;
+    let change = match rng.below(4) {
+        0 => "all fresh".into(),
+        1 => bit(rng, bytes, layout::STATUS, 0, 3),
+        2 if vcpus > 0 => early_vcpu(rng, bytes, vcpus),
+        _ => {
+            let row = rng.below(layout::BANKS.rows(bytes) as u64) as usize;
+            let word = layout::BANKS.field(row, rng.below(3) as usize);
+            bit(rng, bytes, word, 0, 27)
+        }
+    };
+    format!("INIT put back, {change}")
+}
+
+/// A bit of a VCPU's latch, level, trigger or STATUSR; of the two in the middle none of SGIs.
+fn early_vcpu(rng: &mut Rng, bytes: &mut [u8], vcpus: u64) -> String {
+    let (column, low, high) = rng.pick(&[(1, 0, 31), (2, 16, 31), (3, 16, 31), (4, 0, 3)]);
+    let word = layout::VCPUS.field(rng.below(vcpus) as usize, column);
+    bit(rng, bytes, word, low, high)
+}
+
+/// INIT and what comes only after it are gone, and banks and STATUSRs fresh: a sound state stays one.
+fn put_back(bytes: &mut [u8]) {
+    for mark in [layout::INIT, layout::RUNNING, layout::STATUS, layout::ITS_INIT] {
+        mark.put(bytes, 0);
+    }
+    clear(bytes, layout::DEVICE_TABLE, true);
+    clear(bytes, layout::COLLECTION_TABLE, true);
+    for list in [&layout::DEVICES, &layout::COLLECTIONS, &layout::EVENTS] {
+        list.count.put(bytes, 0);
+    }
+    for row in 0..layout::VCPUS.rows(bytes) {
+        (1..5).for_each(|column| layout::VCPUS.field(row, column).put(bytes, if column == 3 { 0xffff } else { 0 }));
+    }
+    for row in 0..layout::BANKS.rows(bytes) {
+        (0..3).for_each(|column| layout::BANKS.field(row, column).put(bytes, 0));
     }
 }
 

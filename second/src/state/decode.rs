@@ -2,7 +2,7 @@
 
 use super::raw::{Bank, Base, Raw};
 use super::sound::{first_broken, CLAUSES};
-use crate::model::banks::{bit, Irq};
+use crate::model::banks::{bit, interrupts, Irq};
 use crate::model::frames::{Frames, Region};
 use crate::model::guest::{Guest, Vcpu};
 #[cfg(feature = "its")]
@@ -26,7 +26,7 @@ fn guest(raw: &Raw) -> Guest {
         running: raw.running == 1,
         count: raw.irqs as u32,
         count_set: raw.irqs_set == 1,
-        shared: raw.banks.iter().flat_map(irqs).collect(),
+        shared: (1..).zip(&raw.banks).map(|(bank, words)| irqs(words)[..interrupts(bank)].to_vec()).collect(),
         status: raw.status as u32,
         #[cfg(feature = "its")]
         its: its(raw),

@@ -1,7 +1,7 @@
 //! The judge: whether bytes are sound (§1.8), clause by clause as in `LAYOUT.md`. No call of the library is made here,
 //! and no clause leans on another, so that a state can break just one.
 
-use super::raw::{Raw, Vcpu};
+use super::raw::{Bank, Raw, Vcpu};
 use crate::model::guest::Area;
 
 /// A short name, and whether the numbers keep the rule.
@@ -85,6 +85,19 @@ pub const CLAUSES: &[Clause] = &[
     ("event number", |s| !s.placed() || s.events.rows.iter().all(|event| fits(s, event.device, event.event))),
     ("event LPI", |s| !s.placed() || s.events.rows.iter().all(|event| event.lpi >= 8192)),
     ("event ICID", |s| !s.placed() || s.events.rows.iter().all(|event| stands(s, event.icid))),
+    // §1.15.
+    ("last latch", |s| last_bank(s).is_none_or(|bank| bank.latch < 1 << 28)),
+    ("last level", |s| last_bank(s).is_none_or(|bank| bank.level < 1 << 28)),
+    ("last trigger", |s| last_bank(s).is_none_or(|bank| bank.trigger < 1 << 28)),
+    // §1.16: fresh as in §4.3.
+    ("early VCPU latch", |s| s.init != 0 || s.vcpus.rows.iter().all(|vcpu| vcpu.bank.latch == 0)),
+    ("early VCPU level", |s| s.init != 0 || s.vcpus.rows.iter().all(|vcpu| vcpu.bank.level == 0)),
+    ("early VCPU trigger", |s| s.init != 0 || s.vcpus.rows.iter().all(|vcpu| vcpu.bank.trigger == 65_535)),
+    ("early VCPU status", |s| s.init != 0 || s.vcpus.rows.iter().all(|vcpu| vcpu.status == 0)),
+    ("early shared latch", |s| s.init != 0 || s.banks.iter().all(|bank| bank.latch == 0)),
+    ("early shared level", |s| s.init != 0 || s.banks.iter().all(|bank| bank.level == 0)),
+    ("early shared trigger", |s| s.init != 0 || s.banks.iter().all(|bank| bank.trigger == 0)),
+    ("early distributor status", |s| s.init != 0 || s.status == 0),
 ];
 
 /// §1.9: all the marks.
@@ -99,6 +112,11 @@ fn marks(s: &Raw) -> [u64; 9] {
 fn distinct(vcpus: &[Vcpu]) -> bool {
     let taken = |n: usize| vcpus[..n].iter().any(|before| before.affinity == vcpus[n].affinity);
     !(0..vcpus.len()).any(taken)
+}
+
+/// §1.15: the bank from INTID 992 on. It is there with 1,024 interrupts alone (§4.2).
+fn last_bank(s: &Raw) -> Option<&Bank> {
+    s.banks.last().filter(|_| s.irqs == 1024)
 }
 
 /// §3.4: no two of the areas share a byte.

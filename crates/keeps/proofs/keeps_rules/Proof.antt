@@ -78,27 +78,50 @@ returns-5 c =
     refuted _ (λ e. clash (rules-hold _ _ _ _ (a .before .before .load-memory .ensures) (a .before .load-control .ensures) (a .load-frames .ensures) e .vcpus)
     (failed (c .before .vcpus-ok .ensures) (c .if5 .taken)))
 
+last-ok-requires : tie.Need-last-ok-requires
+last-ok-requires c κs = search needs
+
 returns-6 : tie.Need-returns-6
 returns-6 c =
-    let a = c .before .before .before .before .before .before .before .before .before .before .before .before .before .before .before in
-    refuted _ (λ e. omega (arith, rules-hold _ _ _ _ (a .before .before .load-memory .ensures) (a .before .load-control .ensures) (a .load-frames .ensures) e .its, c .if6 .taken))
+    let a = c .before .before .before .before .before .before .before .before .before .before .before .before .before .before in
+    refuted _ (λ e. clash (rules-hold _ _ _ _ (a .before .before .load-memory .ensures) (a .before .load-control .ensures) (a .load-frames .ensures) e .last)
+    (failed (c .before .last-ok .ensures) (c .if6 .taken)))
 
-tables-ok-requires : tie.Need-tables-ok-requires
-tables-ok-requires c κs =
-    let a = c .before .before .before .before .before .before .before .before .before .before .before .before .before .before .before in
-    (a .before .before .before .before .pre, (memory-read _ (a .before .before .load-memory .ensures), ap (λ (x : Control). x .itsinit) (control-read _ (a .before .load-control .ensures))))
+untouched-requires : tie.Need-untouched-requires
+untouched-requires c κs =
+    let a = c .before .before .before .before .before .before .before .before .before .before .before .before .before .before in
+    let k = control-read _ (a .before .load-control .ensures) in
+    (a .before .before .before .before .pre, (ap (λ (x : Control). x .init) k, ap (λ (x : Control). x .status) k))
 
 returns-7 : tie.Need-returns-7
 returns-7 c =
     let a = c .before .before .before .before .before .before .before .before .before .before .before .before .before .before .before .before in
-    let f = c .before .before .before .before .before .before .before .before in
+    refuted _ (λ e. clash (rules-hold _ _ _ _ (a .before .before .load-memory .ensures) (a .before .load-control .ensures) (a .load-frames .ensures) e .untouched)
+    (failed (c .before .untouched .ensures) (c .if7 .taken)))
+
+returns-8 : tie.Need-returns-8
+returns-8 c =
+    let a = c .before .before .before .before .before .before .before .before .before .before .before .before .before .before .before .before .before .before .before in
+    refuted _ (λ e. omega (arith, rules-hold _ _ _ _ (a .before .before .load-memory .ensures) (a .before .load-control .ensures) (a .load-frames .ensures) e .its, c .if8 .taken))
+
+tables-ok-requires : tie.Need-tables-ok-requires
+tables-ok-requires c κs =
+    let a = c .before .before .before .before .before .before .before .before .before .before .before .before .before .before .before .before .before .before .before in
+    (a .before .before .before .before .pre, (memory-read _ (a .before .before .load-memory .ensures), ap (λ (x : Control). x .itsinit) (control-read _ (a .before .load-control .ensures))))
+
+returns-9 : tie.Need-returns-9
+returns-9 c =
+    let a = c .before .before .before .before .before .before .before .before .before .before .before .before .before .before .before .before .before .before .before .before in
+    let f = c .before .before .before .before .before .before .before .before .before .before .before .before in
     rules-last _ _ _ _ (a .before .before .load-memory .ensures) (a .before .load-control .ensures) (a .load-frames .ensures) (record {
       memory = passed (f .before .before .before .before .before .before .memory-ok .ensures) (f .before .before .before .before .before .if1 .left);
       control = passed (f .before .before .before .before .control-ok .ensures) (f .before .before .before .if2 .left);
       frames = passed (f .before .frames-ok .ensures) (f .if3 .left);
-      init = passed (c .before .before .before .before .before .before .before .init-ok .ensures) (c .before .before .before .before .before .before .if4 .left);
-      vcpus = passed (c .before .before .before .before .before .vcpus-ok .ensures) (c .before .before .before .before .if5 .left);
-      its = c .before .if6 .left;
+      init = passed (c .before .before .before .before .before .before .before .before .before .before .before .init-ok .ensures) (c .before .before .before .before .before .before .before .before .before .before .if4 .left);
+      vcpus = passed (c .before .before .before .before .before .before .before .before .before .vcpus-ok .ensures) (c .before .before .before .before .before .before .before .before .if5 .left);
+      last = passed (c .before .before .before .before .before .before .before .last-ok .ensures) (c .before .before .before .before .before .before .if6 .left);
+      untouched = passed (c .before .before .before .before .before .untouched .ensures) (c .before .before .before .before .if7 .left);
+      its = c .before .if8 .left;
     }) (c .tables-ok .ensures)
 
 pub keeps-rules-spec : {M : Type 1} → statement M
@@ -119,6 +142,10 @@ keeps-rules-spec =
     returns-4
     vcpus-ok-requires
     returns-5
+    last-ok-requires
     returns-6
+    untouched-requires
+    returns-7
+    returns-8
     tables-ok-requires
-    returns-7)
+    returns-9)

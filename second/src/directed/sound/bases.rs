@@ -10,7 +10,9 @@ pub enum Base {
     Fresh,
     /// Two VCPUs, distributor, single run and ITS frame; INIT would be accepted.
     Early,
-    /// The same after INIT.
+    /// The same with 64 VCPUs and 1,024 interrupts.
+    Many,
+    /// Early after INIT.
     Single,
     /// Three VCPUs in regions of 2 and 1, after INIT.
     Regions,
@@ -22,8 +24,8 @@ pub enum Base {
     Full,
 }
 
-pub const BASES: [Base; 7] =
-    [Base::Fresh, Base::Early, Base::Single, Base::Regions, Base::Placed, Base::Mapped, Base::Full];
+pub const BASES: [Base; 8] =
+    [Base::Fresh, Base::Early, Base::Many, Base::Single, Base::Regions, Base::Placed, Base::Mapped, Base::Full];
 
 pub const TOP: u64 = 1 << 40;
 pub const MEMORY: u64 = 0x4000_0000;
@@ -51,9 +53,14 @@ fn frames(c: &mut Case, vcpus: u32) {
     c.its_base(ITS, 0);
 }
 
-fn single(c: &mut Case) {
-    frames(c, 2);
+fn single(c: &mut Case, vcpus: u32) {
+    frames(c, vcpus);
     c.base(3, SINGLE, 0);
+}
+
+fn many(c: &mut Case) {
+    c.put(3, 0, 1024, 0);
+    single(c, 64);
 }
 
 fn regions(c: &mut Case) {
@@ -94,7 +101,7 @@ fn full(c: &mut Case) {
 fn its(c: &mut Case, base: Base) {
     match base {
         Base::Placed | Base::Mapped => {
-            single(c);
+            single(c, 2);
             placed(c);
         }
         _ => full(c),
@@ -111,9 +118,10 @@ pub fn build(base: Base) -> Result<Vec<u8>, String> {
     case.setup(40, MEMORY, LENGTH, 0);
     match base {
         Base::Fresh => {}
-        Base::Early => single(&mut case),
+        Base::Early => single(&mut case, 2),
+        Base::Many => many(&mut case),
         Base::Single => {
-            single(&mut case);
+            single(&mut case, 2);
             case.init(0);
         }
         Base::Regions => regions(&mut case),

@@ -1,4 +1,4 @@
-//! §1.9, §1.12: the guest's own numbers, its marks, VCPUs and banks.
+//! §1.9, §1.12: the guest's own numbers, its marks and VCPUs.
 
 use super::bases::{Base, LENGTH, MEMORY, TOP};
 use super::{Put, Row};
@@ -6,7 +6,7 @@ use crate::state::layout::{
     BANKS, COLLECTION_TABLE, DEVICE_TABLE, DISTRIBUTOR, INIT, IRQS, IRQS_SET, ITS, ITS_INIT, MEMORY as SIZE, REGIONS,
     RUNNING, SINGLE, START, STATUS, VCPUS, WIDTH,
 };
-use Base::{Early, Fresh, Full, Placed, Single};
+use Base::{Early, Fresh, Full, Placed, Regions, Single};
 
 const AFFINITY: usize = 0;
 const LATCH: usize = 1;
@@ -45,33 +45,31 @@ pub const ROWS: &[Row] = &[
     Row("count least", Fresh, &[(IRQS_SET, 1), (IRQS, 32)], &[(IRQS_SET, 1), (IRQS, 64)]),
     Row("count least", Fresh, &[(IRQS_SET, 1), (IRQS, 0)], &[(IRQS_SET, 1), (IRQS, 96)]),
     Row("count most", Full, &[(IRQS, 1056)], &[(IRQS, 1024)]),
-    Row("count most", Fresh, &[(IRQS_SET, 1), (IRQS, (1 << 32) + 64)], &[(IRQS_SET, 1), (IRQS, 64)]),
+    Row("count most", Single, &[(IRQS_SET, 1), (IRQS, (1 << 32) + 64)], &[(IRQS_SET, 1), (IRQS, 64)]),
     Row("count step", Fresh, &[(IRQS_SET, 1), (IRQS, 80)], &[(IRQS_SET, 1), (IRQS, 128)]),
     Row("count step", Full, &[(IRQS, 1023)], &[(IRQS, 992)]),
     Row("count unset", Fresh, &[(IRQS, 224)], &[(IRQS, 224), (IRQS_SET, 1)]),
     Row("count unset", Single, &[(IRQS, 64)], &[(IRQS, 256)]),
     // §1.9: STATUSR.
     Row("distributor status", Single, &[(STATUS, 16)], &[(STATUS, 15)]),
-    Row("distributor status", Early, &[(STATUS, 1 << 32)], &[(STATUS, 8)]),
+    Row("distributor status", Regions, &[(STATUS, 1 << 32)], &[(STATUS, 8)]),
     // §1.9: within §1.6.
     Row("VCPUs most", Full, &[(VCPUS.count, 65)], &[(VCPUS.count, 64)]),
     // §1.12.
     Row("affinities", Early, &[(VCPUS.field(1, AFFINITY), 0)], &[(VCPUS.field(1, AFFINITY), 1 << 31)]),
     Row("affinities", Full, &[(VCPUS.field(0, AFFINITY), 63)], &[(VCPUS.field(0, AFFINITY), 64)]),
     Row("SGI trigger", Single, &[(VCPUS.field(1, TRIGGER), 0x7fff)], &[(VCPUS.field(1, TRIGGER), 0xffff)]),
-    Row("SGI trigger", Early, &[(VCPUS.field(0, TRIGGER), 0xffff_fffe)], &[(VCPUS.field(0, TRIGGER), 0xffff_ffff)]),
+    Row("SGI trigger", Regions, &[(VCPUS.field(0, TRIGGER), 0xffff_fffe)], &[(VCPUS.field(0, TRIGGER), 0xffff_ffff)]),
     Row("SGI level", Single, &[(VCPUS.field(1, LEVEL), 0x8000)], &[(VCPUS.field(1, LEVEL), 0x1_0000)]),
-    Row("SGI level", Early, &[(VCPUS.field(0, LEVEL), 0xffff_0001)], &[(VCPUS.field(0, LEVEL), 0xffff_0000)]),
+    Row("SGI level", Regions, &[(VCPUS.field(0, LEVEL), 0xffff_0001)], &[(VCPUS.field(0, LEVEL), 0xffff_0000)]),
     // §1.9: STATUSR.
     Row("VCPU status", Single, &[(VCPUS.field(1, VCPU_STATUS), 16)], &[(VCPUS.field(1, VCPU_STATUS), 15)]),
-    Row("VCPU status", Early, &[(VCPUS.field(0, VCPU_STATUS), 1 << 31)], &[(VCPUS.field(0, VCPU_STATUS), 1)]),
+    Row("VCPU status", Regions, &[(VCPUS.field(0, VCPU_STATUS), 1 << 31)], &[(VCPUS.field(0, VCPU_STATUS), 1)]),
 ];
 
 /// Changes that no rule forbids.
 pub const FREE: &[(&str, Base, &[Put])] = &[
     ("§1.12 latches of SGIs may be up", Single, &[(VCPUS.field(0, LATCH), 0xffff_ffff)]),
-    ("§1.8 banks are not fresh before INIT", Early, &[(VCPUS.field(1, LATCH), 0x5555), (BANKS.field(6, 1), 0xff)]),
-    ("§1.9 STATUSRs are not fresh before INIT", Early, &[(STATUS, 3), (VCPUS.field(1, VCPU_STATUS), 5)]),
     ("§1.8 a shared bank is any three words", Single, &[(BANKS.field(0, 0), u64::MAX), (BANKS.field(0, 2), 0x1234)]),
     ("§1.7 a VCPU behind the last", Single, &[(VCPUS.field(2, AFFINITY), 0), (VCPUS.field(2, LEVEL), 1)]),
     ("§1.7 a region behind the last", Single, &[(REGIONS.field(0, 0), 1), (REGIONS.field(31, 1), u64::MAX)]),

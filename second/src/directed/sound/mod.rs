@@ -2,6 +2,7 @@
 //! break it and no other, which every call must refuse and leave, and beside each its nearest sound neighbour, which
 //! must be taken. Over the rows stand the paragraphs that their clauses are from.
 
+mod banks;
 mod bases;
 mod frames;
 mod guest;
@@ -23,12 +24,12 @@ type Put = (Field, u64);
 struct Row(&'static str, Base, &'static [Put], &'static [Put]);
 
 fn rows() -> impl Iterator<Item = &'static Row> {
-    guest::ROWS.iter().chain(frames::ROWS).chain(its::ROWS)
+    guest::ROWS.iter().chain(banks::ROWS).chain(frames::ROWS).chain(its::ROWS)
 }
 
 /// §1.7, §1.8: sound states in which bytes that nothing reads are changed, or what no rule is about.
 fn free() -> impl Iterator<Item = &'static (&'static str, Base, &'static [Put])> {
-    guest::FREE.iter().chain(its::FREE)
+    guest::FREE.iter().chain(banks::FREE).chain(its::FREE)
 }
 
 fn changed(bytes: &[u8], puts: &[Put]) -> Vec<u8> {
