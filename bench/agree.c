@@ -350,6 +350,21 @@ static void check_damages(void)
     }
 }
 
+/* Of counts that nobody set 64 and 256 are sound, and those next to them are not. */
+static void check_unset(void)
+{
+    static const struct call up = {.kind = LINE, .b = 40, .c = 1};
+    static const uint64_t counts[] = {64, 96, 224, 256, 288};
+    uint8_t state[STATE_BYTES];
+    memcpy(state, guests[SMALL].state, STATE_BYTES);
+    put64(state + AT_IRQS_SET, 0);
+    for (size_t i = 0; i < sizeof counts / sizeof counts[0]; i++) {
+        put64(state + AT_IRQS, counts[i]);
+        lend_state(state);
+        both_answer(counts[i] == 64 || counts[i] == 256 ? 0 : -22, &up, "a count that nobody set");
+    }
+}
+
 /* Every byte of a state, changed by itself; gives how often the state was still sound. */
 static unsigned long sweep_state(const struct guest *g, uint8_t change)
 {
@@ -542,6 +557,8 @@ unsigned long check_agreement(void)
     check_refused();
     check_running();
     check_damages();
+    check_unset();
+    check_sweeps(&guests[FRESH]);
     check_sweeps(&guests[READY]);
     check_sweeps(&guests[SOME]);
     check_sweeps(&guests[FULL]);

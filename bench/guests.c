@@ -116,11 +116,25 @@ static void init(struct guest *g)
     accepted(rk_vgic_set(g->state, STATE_BYTES, 4, 0, nothing, 0));
 }
 
-/* with the redistributors as one run */
+static void set_count(struct guest *g, uint32_t irqs)
+{
+    uint8_t count[4];
+    put32(count, irqs);
+    accepted(rk_vgic_set(g->state, STATE_BYTES, 3, 0, count, sizeof count));
+}
+
+/* with 256 interrupts and the redistributors as one run, before INIT */
 static struct guest *begin_single(int index, const char *name, size_t memory_len, uint32_t vcpus)
 {
     struct guest *g = begin(index, name, memory_len, vcpus);
+    set_count(g, 256);
     set8(g, 3, UINT64_C(0x080a0000));
+    return g;
+}
+
+static struct guest *make_single(int index, const char *name, size_t memory_len, uint32_t vcpus)
+{
+    struct guest *g = begin_single(index, name, memory_len, vcpus);
     init(g);
     return g;
 }
@@ -132,11 +146,9 @@ static void make_full(void)
         .device_pages = 1, .collection_pages = 1, .collections = 16, .devices = 32, .events = 32, .bits = 5, .device_step = 15,
         .event_step = 1, .first_itt = 0x2000,
     };
-    uint8_t count[4];
     struct guest *g = begin(FULL, "full", 1 << 20, 64);
     add_regions(g, 32);
-    put32(count, 1024);
-    accepted(rk_vgic_set(g->state, STATE_BYTES, 3, 0, count, sizeof count));
+    set_count(g, 1024);
     init(g);
     fill_its(g, &filling, 64);
 }
@@ -153,10 +165,10 @@ void make_guests(void)
         .event_step = 2017, .first_itt = 1 << 20,
     };
     begin(FRESH, "fresh", 1 << 20, 1);
-    set8(begin(READY, "ready", 1 << 20, 1), 3, UINT64_C(0x080a0000));
-    begin_single(SMALL, "small", 1 << 20, 1);
-    fill_its(begin_single(SOME, "a", 1 << 16, 4), &some, 4);
-    fill_its(begin_single(BLANK, "b", 1 << 21, 4), &blank, 4);
-    fill_its(begin_single(WIDE, "c", 17 << 20, 4), &wide, 4);
+    begin_single(READY, "ready", 1 << 20, 1);
+    make_single(SMALL, "small", 1 << 20, 1);
+    fill_its(make_single(SOME, "a", 1 << 16, 4), &some, 4);
+    fill_its(make_single(BLANK, "b", 1 << 21, 4), &blank, 4);
+    fill_its(make_single(WIDE, "c", 17 << 20, 4), &wide, 4);
     make_full();
 }

@@ -17,8 +17,8 @@ struct guest {
 };
 
 enum {
-    FRESH, /* 1 VCPU and a distributor */
-    READY, /* also what INIT needs */
+    FRESH, /* 1 VCPU and a distributor; no count was set */
+    READY, /* also what INIT needs, and 256 interrupts */
     SMALL, /* the same after INIT */
     SOME,  /* 3 devices, 30 events */
     BLANK, /* no mapping, two tables of 128 pages */

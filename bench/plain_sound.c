@@ -23,7 +23,7 @@ static bool control_ok(const uint8_t *s)
         return false;
     if (irqs < 64 || irqs > 1024 || irqs % 32 != 0)
         return false;
-    return irqs_set == 1 || (irqs_set == 0 && irqs == 256);
+    return irqs_set == 1 || (irqs_set == 0 && (irqs == 64 || irqs == 256));
 }
 
 static bool counts_ok(const uint8_t *s)

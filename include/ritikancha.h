@@ -70,7 +70,7 @@ extern "C" {
 /* Answers the length of a guest's state in bytes: the same number at every call (§1.2). */
 int64_t rk_state_len(void);
 
-/* Makes a fresh guest (§1.4, §1.5): 256 interrupts, no VCPU, frame or mapping, nothing running. What the state's bytes held before does not
+/* Makes a fresh guest (§1.4, §1.5): 64 interrupts, no VCPU, frame or mapping, nothing running. What the state's bytes held before does not
  * matter. width is the address width p; start and length give the one run of guest memory.
  *   -RK_EFAULT  state_len is not rk_state_len()
  *   -RK_EINVAL  width not 36 to 52; start or length not a multiple of 4,096; length below 4,096 or above 2^30; start + length above 2^width
@@ -127,9 +127,10 @@ int64_t rk_vcpus_stop(uint8_t *state, size_t state_len);
  *   0x204 to 0x27C    by 4: the latch word of INTIDs 32n to 32n + 31 at 0x200 + 4n, all 32 bits (§4.13); of 0x27C the low 28 (§4.17)
  *   0x200, 0x280 to 0x2FC  by 4: the write is ignored
  *
- * Group 3, attribute 0 (§3.14), 4 bytes: the interrupt count. The shared banks of the new count are fresh.
+ * Group 3, attribute 0 (§3.14), 4 bytes: the interrupt count, 64 until it is set. The shared banks of the new count are fresh. A guest that
+ * was kept from when a fresh one had 256, and never set its count, has 256 still; it can be set like a fresh guest's (§1.17).
  *   -RK_EINVAL  not one of 64, 96, 128, .., 1,024
- *   -RK_EBUSY   set before (256 too), or after VGIC INIT
+ *   -RK_EBUSY   set before (to the count that stood too), or after VGIC INIT
  *
  * Group 4, attribute 0 (§2.9, §3.11), no value (value_len 0): VGIC INIT. Done before: 0, while running too.
  *   -RK_ENODEV  no VCPU

@@ -9,6 +9,7 @@ use crate::ffi;
 use crate::model::readings;
 use crate::model::{Guest, Model};
 use crate::random;
+use crate::state::{decode, former};
 
 pub trait Side {
     /// Makes the call; complaints about broken promises are added to the list.
@@ -16,6 +17,9 @@ pub trait Side {
 
     /// All that the side holds now.
     fn held(&self) -> Held;
+
+    /// The guest becomes one with 256 interrupts that were never set (§1.17). No call does this.
+    fn become_former(&mut self);
 }
 
 /// The library's bytes, the model's guest: what one has not is empty.
@@ -113,6 +117,10 @@ impl Side for Library {
     fn held(&self) -> Held {
         (self.state.content().to_vec(), None)
     }
+
+    fn become_former(&mut self) {
+        former::make(self.state.content_mut());
+    }
 }
 
 /// Both at once: answers what they agree on. A difference is a complaint.
@@ -138,6 +146,14 @@ impl Side for Both {
     fn held(&self) -> Held {
         (self.library.held().0, self.model.held().1)
     }
+
+    /// From the library's bytes the model takes the guest over. Where it cannot, the two differ from here on.
+    fn become_former(&mut self) {
+        self.library.become_former();
+        if let Ok(guest) = decode::take_over(self.library.state.content()) {
+            self.model.guest = Some(guest);
+        }
+    }
 }
 
 impl Side for Model {
@@ -155,5 +171,9 @@ impl Side for Model {
 
     fn held(&self) -> Held {
         (Vec::new(), self.guest.clone())
+    }
+
+    fn become_former(&mut self) {
+        self.guest.as_mut().expect("set-up comes first").become_former();
     }
 }

@@ -3,6 +3,7 @@ pub mod Still
 pub mod Stored
 pub mod On
 pub mod Stays
+pub mod Counts
 pub mod Demand3
 pub mod Apart
 pub mod Anchors

@@ -5,6 +5,7 @@ use native.Mathlib.Nat.{lt-of-lt-of-le}
 use native.Mathlib.Omega.{arith}
 use mathlib.Core.Path.{_≡_, refl}
 use mathlib.Core.Bool.{Bool, true, false, _||_, _&&_}
+use mathlib.Core.Logic.{inl}
 use mathlib.Core.List.{List}
 use lib.ListN.{length}
 use lib.Dec.{eqb, leb, lit<, lit≤}
@@ -15,10 +16,10 @@ use Rattle.words.specs.Words.{le}
 use Rattle.words.proofs.Bytes.{Bytes, le-bound}
 use Rattle.areas.specs.Area.{inside, endOf}
 use Rattle.guest.specs.declared.Table.{Table}
-use Rattle.guest.specs.Machine.{Machine, fresh, isRunning, withTables}
+use Rattle.guest.specs.Machine.{Machine, freshIrqs, fresh, isRunning, withTables}
 use Rattle.guest.specs.Words.{TableWords}
 use Rattle.rules.specs.Rules.{rules, memoryOk, memoryArea, tableArea}
-use Rattle.rules.proofs.Parts.{TableParts, memory-parts}
+use Rattle.rules.proofs.Parts.{Default, TableParts, memory-parts}
 use Rattle.rules.proofs.Facts.{sound-memory, sound-limit, sound-devices, sound-collections}
 use Rattle.layout.specs.Layout.{size, decode, stored}
 use Rattle.mapping.specs.Mapped.{Mapped, MapResult, empty}
@@ -34,7 +35,7 @@ use Rattle.mapkept.proofs.Events.{mapEvent-keeps, discard-keeps, move-keeps}
 use Rattle.described.proofs.Exact.{restored-ok}
 use Rattle.kept.specs.Good.{Good, Stays, Keeps}
 use Rattle.kept.proofs.Choice.{chosen, choose-by, and-left, and-right}
-use Rattle.kept.proofs.Vcpus.{addVcpu-keeps, setRunning-keeps, setIrqs-keeps, itsInit-keeps, unplaced-good, fresh-good}
+use Rattle.kept.proofs.Vcpus.{addVcpu-keeps, setRunning-keeps, setIrqs-keeps, itsInit-keeps, unplaced-good, freshWith, default-good}
 use Rattle.kept.proofs.Bases.{setGroup0-keeps, setItsGroup0-keeps}
 use Rattle.kept.proofs.Init.{vgicInit-keeps}
 use Rattle.irqkept.proofs.Calls.{irqSet-keeps, irqClear-keeps, irqLine-keeps, irqTrigger-keeps, setGroup1-keeps, setGroup5-keeps, setGroup7-keeps}
@@ -240,17 +241,20 @@ restore-sound s mem h =
 
 -- Set-up: any bytes of the right length, with good numbers.
 
-pub setup-good : (width start len : ℕ) → memoryOk (record { width = width; start = start; length = len }) ≡ true → Good (fresh width start len)
-setup-good width start len h =
+pub default-setup : (n width start len : ℕ) → Default n → memoryOk (record { width = width; start = start; length = len }) ≡ true → Good (freshWith n width start len)
+default-setup n width start len d h =
     let p = memory-parts (record { width = width; start = start; length = len }) h in
     let e = p .end in
-    let n = p .narrow in
+    let q = p .narrow in
     let m = p .most in
-    let t : 2 ^ width ≤ 2 ^ 52 = pow-mono n in
+    let t : 2 ^ width ≤ 2 ^ 52 = pow-mono q in
     let w : width < 2 ^ 64 = omega arith in
     let a : start < 2 ^ 64 = omega arith in
     let z : len < 2 ^ 64 = omega arith in
-    fresh-good width start len w a z h
+    default-good n width start len d w a z h
+
+pub setup-good : (width start len : ℕ) → memoryOk (record { width = width; start = start; length = len }) ≡ true → Good (fresh width start len)
+setup-good width start len h = default-setup freshIrqs width start len (inl refl) h
 
 pub setup-sound : (width start len : ℕ) (s : List ℕ) → length s ≡ size → Bytes s → memoryOk (record { width = width; start = start; length = len }) ≡ true
     → Sound (stored (fresh width start len) (storedMap empty s))
@@ -265,36 +269,79 @@ set-up width start len s h =
     (λ _. h))
     h
 
--- Every public call on sound bytes leaves sound ones. The numbers are as C passes them, and the lent value is bytes.
+-- The numbers of a change that have a bound, as C passes them.
+abbrev pub Narrow : Change → Type 0
+Narrow (AddVcpu a) = a < 2 ^ 32
+Narrow Start = Unit {0}
+Narrow Stop = Unit {0}
+Narrow (VgicSet g a w v) = (v < 2 ^ 64) × (w ≡ 4 → v < 2 ^ 32)
+Narrow (ItsSet g a w v) = v < 2 ^ 64
+Narrow (SetPending k i) = Unit {0}
+Narrow (ClearPending k i) = Unit {0}
+Narrow (Activate k i) = Unit {0}
+Narrow (Line k i l) = Unit {0}
+Narrow (Trigger k i w) = w < 2 ^ 32
+
+pub change-keeps : (c : Change) → Narrow c → Keeps (changeStep c)
+change-keeps (AddVcpu a) n = addVcpu-keeps a n
+change-keeps Start n = setRunning-keeps 1 (omega arith)
+change-keeps Stop n = setRunning-keeps 0 (omega arith)
+change-keeps (VgicSet g a w v) n = vgic-keeps g a w v (n .0) (n .1)
+change-keeps (ItsSet g a w v) n = its-keeps g a w v n
+change-keeps (SetPending k i) n = irqSet-keeps k i
+change-keeps (ClearPending k i) n = irqClear-keeps k i
+change-keeps (Activate k i) n = irqClear-keeps k i
+change-keeps (Line k i l) n = irqLine-keeps k i l
+change-keeps (Trigger k i w) n = irqTrigger-keeps k i w n
+
+-- What a call may do to a state: it leaves it, or it is a change, a command, a restore or set-up.
+pub data Way (s : List ℕ) : Call → List ℕ → Type 0 where
+  left : (k : Call) → Way s k s
+  changed : (k : Call) (c : Change) → Narrow c → Way s k (changes c s .lent)
+  commanded : (k : Call) (c : Command) → Way s k (commands c s .lent)
+  reread : (k : Call) (mem : List ℕ) → Way s k (restores s mem .lent)
+  made : (width start len : ℕ) → Way s (setup width start len) (setUp width start len s .lent)
+
+-- Which of them each call is. The numbers are as C passes them, and the lent value is bytes.
+pub way : (c : Call) (s v : List ℕ) → Passed c → Bytes v → Way s c (step c s v .state)
+way stateLen s v p b = left _
+way (setup width start len) s v p b = made width start len
+way (vcpuAdd a) s v p b = changed _ (AddVcpu a) p
+way vcpusStart s v p b = changed _ Start tt
+way vcpusStop s v p b = changed _ Stop tt
+way (setVgic g a) s v p b = changed _ (VgicSet g a (length v) (valueOf v)) (value-small v b, value-four v b)
+way (setIts g a) s v p b =
+    chosen (λ (r : Reply). Way s (setIts g a) (r .lent)) (eqb g 4 && eqb a 4) (commanded _ (Reset (length v)))
+    (changed _ (ItsSet g a (length v) (valueOf v)) (value-small v b))
+way (vgicGet g a) s v p b = left _
+way (itsGet g a) s v p b = left _
+way (redistBase k) s v p b = left _
+way (irqPending k i) s v p b = left _
+way (irqSetPending k i) s v p b = changed _ (SetPending k i) tt
+way (irqClearPending k i) s v p b = changed _ (ClearPending k i) tt
+way (irqActivate k i) s v p b = changed _ (Activate k i) tt
+way (irqLine k i l) s v p b = changed _ (Line k i l) tt
+way (irqTrigger k i w) s v p b = changed _ (Trigger k i w) p
+way (itsPlace ds dp cs cp) s v p b = commanded _ (Place ds dp cs cp)
+way (itsMapDevice id itt bits) s v p b = commanded _ (MapDevice id itt bits)
+way (itsUnmapDevice id) s v p b = commanded _ (UnmapDevice id)
+way (itsMapCollection icid pe) s v p b = commanded _ (MapCollection icid pe)
+way (itsUnmapCollection icid) s v p b = commanded _ (UnmapCollection icid)
+way (itsMapEvent device event lpi icid) s v p b = commanded _ (MapEvent device event lpi icid)
+way (itsDiscard device event) s v p b = commanded _ (Discard device event)
+way (itsMove device event icid) s v p b = commanded _ (Move device event icid)
+way (itsLookup device event) s v p b = left _
+way itsSave s v p b = left _
+way itsRestore s v p b = reread _ v
+way itsExplain s v p b = left _
+
+way-sound : (s : List ℕ) → Sound s → (c : Call) (t : List ℕ) → Way s c t → Sound t
+way-sound s h c t (left _) = h
+way-sound s h c t (changed _ k n) = change-sound k s (change-keeps k n) h
+way-sound s h c t (commanded _ k) = command-sound k s h
+way-sound s h c t (reread _ mem) = restore-sound s mem h
+way-sound s h c t (made width start len) = set-up width start len s h
+
+-- Every public call on sound bytes leaves sound ones.
 pub sound-stays : (c : Call) (s v : List ℕ) → Passed c → Bytes v → Sound s → Sound (step c s v .state)
-sound-stays stateLen s v p b h = h
-sound-stays (setup width start len) s v p b h = set-up width start len s h
-sound-stays (vcpuAdd a) s v p b h = change-sound (AddVcpu a) s (addVcpu-keeps a p) h
-sound-stays vcpusStart s v p b h = change-sound Start s (setRunning-keeps 1 (omega arith)) h
-sound-stays vcpusStop s v p b h = change-sound Stop s (setRunning-keeps 0 (omega arith)) h
-sound-stays (setVgic g a) s v p b h =
-    change-sound (VgicSet g a (length v) (valueOf v)) s (vgic-keeps g a (length v) (valueOf v) (value-small v b) (value-four v b)) h
-sound-stays (setIts g a) s v p b h =
-    chosen Left (eqb g 4 && eqb a 4) (command-sound (Reset (length v)) s h)
-    (change-sound (ItsSet g a (length v) (valueOf v)) s (its-keeps g a (length v) (valueOf v) (value-small v b)) h)
-sound-stays (vgicGet g a) s v p b h = h
-sound-stays (itsGet g a) s v p b h = h
-sound-stays (redistBase k) s v p b h = h
-sound-stays (irqPending k i) s v p b h = h
-sound-stays (irqSetPending k i) s v p b h = change-sound (SetPending k i) s (irqSet-keeps k i) h
-sound-stays (irqClearPending k i) s v p b h = change-sound (ClearPending k i) s (irqClear-keeps k i) h
-sound-stays (irqActivate k i) s v p b h = change-sound (Activate k i) s (irqClear-keeps k i) h
-sound-stays (irqLine k i l) s v p b h = change-sound (Line k i l) s (irqLine-keeps k i l) h
-sound-stays (irqTrigger k i w) s v p b h = change-sound (Trigger k i w) s (irqTrigger-keeps k i w p) h
-sound-stays (itsPlace ds dp cs cp) s v p b h = command-sound (Place ds dp cs cp) s h
-sound-stays (itsMapDevice id itt bits) s v p b h = command-sound (MapDevice id itt bits) s h
-sound-stays (itsUnmapDevice id) s v p b h = command-sound (UnmapDevice id) s h
-sound-stays (itsMapCollection icid pe) s v p b h = command-sound (MapCollection icid pe) s h
-sound-stays (itsUnmapCollection icid) s v p b h = command-sound (UnmapCollection icid) s h
-sound-stays (itsMapEvent device event lpi icid) s v p b h = command-sound (MapEvent device event lpi icid) s h
-sound-stays (itsDiscard device event) s v p b h = command-sound (Discard device event) s h
-sound-stays (itsMove device event icid) s v p b h = command-sound (Move device event icid) s h
-sound-stays (itsLookup device event) s v p b h = h
-sound-stays itsSave s v p b h = h
-sound-stays itsRestore s v p b h = restore-sound s v h
-sound-stays itsExplain s v p b h = h
+sound-stays c s v p b h = way-sound s h c (step c s v .state) (way c s v p b)

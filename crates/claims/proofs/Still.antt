@@ -1,11 +1,13 @@
--- No call of the VGIC changes the memory or the tables' places, or takes a VCPU away.
+-- No call of the VGIC changes the memory or the tables' places, takes a VCPU away, or changes the interrupt count without marking it as set.
 use Prim.Native.Nat.{ℕ, _%_, _≤_}
 use native.Mathlib.Omega.{arith}
 use mathlib.Core.Path.{_≡_, refl}
+use mathlib.Core.Logic.{_⊎_, inl, inr}
 use mathlib.Core.Bool.{_||_, _&&_}
 use mathlib.Core.List.{[], _∷_}
 use lib.ListN.{length, length-append, length-set}
 use lib.Dec.{ltb, leb, eqb}
+use Rattle.guest.specs.declared.Control.{Control}
 use Rattle.guest.specs.declared.Bank.{Bank}
 use Rattle.guest.specs.declared.Vcpu.{Vcpu}
 use Rattle.guest.specs.Machine.{Machine, Result, initialised, isSet, noVcpu}
@@ -27,31 +29,36 @@ use Rattle.calls.specs.declared.Change.the-variants.{AddVcpu, Start, Stop, Vgic
 use Rattle.calls.specs.Groups.{setGroup4, vgicSet, setItsGroup4, itsSet}
 use Rattle.calls.specs.Steps.{changeStep}
 
--- the same memory and tables, and no fewer VCPUs
+-- a count that is marked as set, or the count and the mark that stood
+abbrev pub Counts : Control → Control → Type 0
+Counts c next = (next .irqsset ≡ 1) ⊎ ((next .irqs ≡ c .irqs) × (next .irqsset ≡ c .irqsset))
+
+-- the same memory and tables, no fewer VCPUs, and the count
 pub record Still (m next : Machine) : Type 0 where
   pub memory : next .memory ≡ m .memory
   pub tables : next .tables ≡ m .tables
   pub vcpus : length (m .vcpus) ≤ length (next .vcpus)
+  pub count : Counts (m .control) (next .control)
 
 module _ (m : Machine) where
   same : Still m m
-  same = record { memory = refl; tables = refl; vcpus = omega arith }
+  same = record { memory = refl; tables = refl; vcpus = omega arith; count = inr (refl, refl) }
 
   abbrev Stills : Result → Type 0
   Stills r = Still m (r .next)
 
   vcpu-still : (k : ℕ) (v : Vcpu) → Still m (withVcpu k v m)
-  vcpu-still k v = record { memory = refl; tables = refl; vcpus = rw (length-set (m .vcpus) k v) (omega arith) }
+  vcpu-still k v = record { memory = refl; tables = refl; vcpus = rw (length-set (m .vcpus) k v) (omega arith); count = inr (refl, refl) }
 
   bank-still : (s : Spot) (b : Bank) → Still m (withBank s b m)
   bank-still (Own k) b = vcpu-still k _
-  bank-still (Shared j) b = record { memory = refl; tables = refl; vcpus = omega arith }
+  bank-still (Shared j) b = record { memory = refl; tables = refl; vcpus = omega arith; count = inr (refl, refl) }
   bank-still Absent b = same
 
   distributor-still : (r : Register) (value : ℕ) → Still m (distributorWrite r value m)
   distributor-still (Latch n) value = bank-still (sharedSpot n m) _
   distributor-still Zero value = same
-  distributor-still Status value = record { memory = refl; tables = refl; vcpus = omega arith }
+  distributor-still Status value = record { memory = refl; tables = refl; vcpus = omega arith; count = inr (refl, refl) }
   distributor-still Unknown value = same
 
   redistributor-still : (r : Register) (k value : ℕ) → Still m (redistributorWrite r k value m)
@@ -90,11 +97,11 @@ module _ (m : Machine) where
       chosen Stills (initialised m) same
       (chosen Stills (taken (m .vcpus) a) same
       (chosen Stills (leb 64 (length (m .vcpus))) same
-      (record { memory = refl; tables = refl; vcpus = rw (length-append (m .vcpus) (noVcpu a ∷ [])) (omega arith) })))
+      (record { memory = refl; tables = refl; vcpus = rw (length-append (m .vcpus) (noVcpu a ∷ [])) (omega arith); count = inr (refl, refl) })))
 
   running-still : (r : ℕ) → Still m (setRunning r m .next)
   unfolding setRunning
-  running-still r = chosen Stills (initialised m) (record { memory = refl; tables = refl; vcpus = omega arith }) same
+  running-still r = chosen Stills (initialised m) (record { memory = refl; tables = refl; vcpus = omega arith; count = inr (refl, refl) }) same
 
   irqs-still : (a w v : ℕ) → Still m (setIrqs a w v m .next)
   unfolding setIrqs
@@ -102,7 +109,7 @@ module _ (m : Machine) where
       chosen Stills (eqb a 0)
       (chosen Stills (eqb w 4)
       (chosen Stills (irqsOk v)
-      (chosen Stills (eqb (m .control .irqsset) 1 || initialised m) same (record { memory = refl; tables = refl; vcpus = omega arith }))
+      (chosen Stills (eqb (m .control .irqsset) 1 || initialised m) same (record { memory = refl; tables = refl; vcpus = omega arith; count = inl refl }))
       same)
       same)
       same
@@ -110,7 +117,7 @@ module _ (m : Machine) where
   its-init-still : Still m (itsInit m .next)
   unfolding itsInit
   its-init-still =
-      chosen Stills (initialised m && isSet (m .frames .its)) (record { memory = refl; tables = refl; vcpus = omega arith }) same
+      chosen Stills (initialised m && isSet (m .frames .its)) (record { memory = refl; tables = refl; vcpus = omega arith; count = inr (refl, refl) }) same
 
   init-still : Still m (vgicInit m .next)
   unfolding vgicInit
@@ -118,7 +125,7 @@ module _ (m : Machine) where
       chosen Stills (initialised m) same
       (chosen Stills (eqb (length (m .vcpus)) 0) same
       (chosen Stills (isSet (m .frames .distributor))
-      (chosen Stills (hasPlaces m) (record { memory = refl; tables = refl; vcpus = omega arith }) same)
+      (chosen Stills (hasPlaces m) (record { memory = refl; tables = refl; vcpus = omega arith; count = inr (refl, refl) }) same)
       same))
 
   -- frames and regions
@@ -126,18 +133,18 @@ module _ (m : Machine) where
   unfolding setGroup0 setDistributor setSingle addRegion
   base-still a w v =
       chosen Stills (eqb a 2)
-      (chosen Stills (eqb w 8) (chosen Stills (eqb (frameFault (m .frames .distributor) _ v m) 0) (record { memory = refl; tables = refl; vcpus = omega arith }) same) same)
+      (chosen Stills (eqb w 8) (chosen Stills (eqb (frameFault (m .frames .distributor) _ v m) 0) (record { memory = refl; tables = refl; vcpus = omega arith; count = inr (refl, refl) }) same) same)
       (chosen Stills (eqb a 3)
-      (chosen Stills (eqb w 8) (chosen Stills (eqb (singleFault v m) 0) (record { memory = refl; tables = refl; vcpus = omega arith }) same) same)
+      (chosen Stills (eqb w 8) (chosen Stills (eqb (singleFault v m) 0) (record { memory = refl; tables = refl; vcpus = omega arith; count = inr (refl, refl) }) same) same)
       (chosen Stills (eqb a 5)
-      (chosen Stills (eqb w 8) (chosen Stills (eqb (regionFault v m) 0) (record { memory = refl; tables = refl; vcpus = omega arith }) same) same)
+      (chosen Stills (eqb w 8) (chosen Stills (eqb (regionFault v m) 0) (record { memory = refl; tables = refl; vcpus = omega arith; count = inr (refl, refl) }) same) same)
       same))
 
   its-base-still : (a w v : ℕ) → Still m (setItsGroup0 a w v m .next)
   unfolding setItsGroup0 setItsBase
   its-base-still a w v =
       chosen Stills (eqb a 4)
-      (chosen Stills (eqb w 8) (chosen Stills (eqb (frameFault (m .frames .its) _ v m) 0) (record { memory = refl; tables = refl; vcpus = omega arith }) same) same)
+      (chosen Stills (eqb w 8) (chosen Stills (eqb (frameFault (m .frames .its) _ v m) 0) (record { memory = refl; tables = refl; vcpus = omega arith; count = inr (refl, refl) }) same) same)
       same
 
   -- registers

@@ -3,8 +3,8 @@
 use Prim.Native.Nat.{ℕ, _+_, _*_, _≤_}
 use mathlib.Core.Path.{_≡_}
 use mathlib.Core.Logic.{_↔_, _⊎_}
-use mathlib.Core.List.{List, []}
-use lib.ListN.{length, replicate}
+use mathlib.Core.List.{List, [], _∷_}
+use lib.ListN.{length}
 use Rattle.lists.proofs.Member.{In}
 use Rattle.answers.specs.Answer.{refusal, done}
 use Rattle.guest.specs.Machine.{Machine}
@@ -23,10 +23,10 @@ pub record Nothing (k : Mapped) : Type 0 where
   pub devices : k .devices ≡ []
   pub events : k .events ≡ []
 
--- §1.5: a fresh guest: 256 interrupts that do not count as set; no VCPU, no frame, no region, no table, no INIT, not running; STATUSR 0, and the
--- seven shared banks of INTIDs 32 to 255 are 0
+-- §1.5: a fresh guest: 64 interrupts that do not count as set; no VCPU, no frame, no region, no table, no INIT, not running; STATUSR 0, and the
+-- one shared bank, of INTIDs 32 to 63, is 0
 pub record Fresh (m : Machine) : Type 0 where
-  pub irqs : m .control .irqs ≡ 256
+  pub irqs : m .control .irqs ≡ 64
   pub unset : m .control .irqsset ≡ 0
   pub vcpus : m .vcpus ≡ []
   pub regions : m .regions ≡ []
@@ -39,7 +39,7 @@ pub record Fresh (m : Machine) : Type 0 where
   pub itsinit : m .control .itsinit ≡ 0
   pub running : m .control .running ≡ 0
   pub status : m .control .status ≡ 0
-  pub shared : m .shared ≡ replicate 7 (record { latch = 0; level = 0; trigger = 0 })
+  pub shared : m .shared ≡ record { latch = 0; level = 0; trigger = 0 } ∷ []
 
 -- §10.3, §1.4: an accepted set-up: the width and the memory that were asked for, and a fresh guest with no mapping
 pub record SetUp (p first bytes : ℕ) (a : After) : Type 0 where

@@ -27,12 +27,12 @@ module _ (width start size : ℕ) where
       × (fresh width start size .memory .length ≡ size)
   fresh-memory = (refl, refl, refl)
 
-  -- 256 interrupts, not set by hand: 7 shared banks, all 0
-  pub fresh-count : (fresh width start size .control .irqs ≡ 256) × (fresh width start size .control .irqsset ≡ 0)
+  -- 64 interrupts, not set by hand: one shared bank, all 0
+  pub fresh-count : (fresh width start size .control .irqs ≡ 64) × (fresh width start size .control .irqsset ≡ 0)
   fresh-count = (refl, refl)
 
-  pub fresh-shared : (length (fresh width start size .shared) ≡ 7) × All Blank (fresh width start size .shared)
-  fresh-shared = (refl, blanks 7)
+  pub fresh-shared : (length (fresh width start size .shared) ≡ 1) × All Blank (fresh width start size .shared)
+  fresh-shared = (refl, blanks 1)
     where
       blanks : (n : ℕ) → All Blank (replicate n (record { latch = 0; level = 0; trigger = 0 }))
       blanks zero = none

@@ -102,15 +102,19 @@ unplaced = record { set = 0; start = 0; pages = 0 }
 abbrev pub noTables : Tables
 noTables = record { devices = unplaced; collections = unplaced }
 
+-- §1.5: the interrupt count of a fresh guest
+abbrev pub freshIrqs : ℕ
+freshIrqs = 64
+
 -- §1.5: a fresh guest of a width p, a start and a length; that nothing is mapped is said where the mapping is (§5.1)
 abbrev pub fresh : ℕ → ℕ → ℕ → Machine
 fresh width start len = record {
   memory = record { width = width; start = start; length = len };
-  control = record { init = 0; running = 0; irqs = 256; irqsset = 0; status = 0; itsinit = 0 };
+  control = record { init = 0; running = 0; irqs = freshIrqs; irqsset = 0; status = 0; itsinit = 0 };
   frames = record { distributor = unset; single = unset; its = unset };
   regions = [];
   vcpus = [];
-  shared = replicate (sharedCount 256) noBank;
+  shared = replicate (sharedCount freshIrqs) noBank;
   tables = noTables;
 }
 

@@ -119,7 +119,10 @@ impl Guest {
 
     pub const MAX_EVENTS: usize = 1024;
 
-    pub const FRESH_IRQS: u64 = 256;
+    pub const FRESH_IRQS: u64 = 64;
+
+    // What a fresh guest had once: a guest that was kept from then may have it and have set none (§1.17).
+    pub const FORMER_IRQS: u64 = 256;
 
     // A fresh guest (§1.5).
     pub fn new(width: u64, start: u64, length: u64) -> Guest
@@ -140,6 +143,7 @@ impl Guest {
             rows: [Region { base: 0, count: 0 }; 32],
             count: 0,
         };
+        let banks = Guest::FRESH_IRQS / 32 - 1;
         Guest {
             memory: Memory {
                 width: width,
@@ -159,7 +163,7 @@ impl Guest {
             vcpus: no_vcpus(),
             shared: Banks {
                 rows: [fresh_bank(); 31],
-                count: 7,
+                count: banks as usize,
             },
             tables: Tables {
                 devices: unplaced,

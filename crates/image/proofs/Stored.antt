@@ -5,7 +5,7 @@ use mathlib.Core.Bool.{true}
 use mathlib.Core.List.{List}
 use lib.ListN.{length}
 use Rattle.words.specs.Words.{leAt}
-use Rattle.guest.specs.Machine.{Machine}
+use Rattle.guest.specs.Machine.{Machine, freshIrqs}
 use Rattle.rules.specs.Rules.{rules}
 use Rattle.layout.specs.Layout as layout
 use Rattle.layout.specs.Layout.{decode, stored, countsOk, controlOf}
@@ -27,7 +27,7 @@ module _ (size : ℕ) (e : isImage size ≡ true) (s : List ℕ) (h : length s �
   counts =
       let r : leAt t 168 8 ≡ 0 = region-count t ∙ ap (λ (m : Machine). length (m .regions)) holds in
       let v : leAt t 176 8 ≡ 4 = vcpu-count t ∙ ap (λ (m : Machine). length (m .vcpus)) holds in
-      let i : leAt t 40 8 ≡ 256 = ap (λ (m : Machine). m .control .irqs) holds in
+      let i : leAt t 40 8 ≡ freshIrqs = ap (λ (m : Machine). m .control .irqs) holds in
       rw (r, v, i)
 
   pub restorable : Restorable t size

@@ -9,7 +9,7 @@ use Rattle.io.specs.Counts.{Counts}
 use Rattle.guest.specs.declared.Frame.{Frame}
 use Rattle.guest.specs.declared.Vcpu.{Vcpu}
 use Rattle.guest.specs.declared.Table.{Table}
-use Rattle.guest.specs.Machine.{Machine, noBank, noVcpu}
+use Rattle.guest.specs.Machine.{Machine, noBank, noVcpu, sharedCount, freshIrqs}
 
 -- §11.1: the lengths that an image may have
 unfoldable pub isImage : ℕ → Bool
@@ -31,11 +31,11 @@ fourVcpus = noVcpu 0 ∷ noVcpu 1 ∷ noVcpu 2 ∷ noVcpu 3 ∷ []
 unfoldable pub guestOf : ℕ → Machine
 guestOf size = record {
   memory = record { width = 40; start = 0x40000000; length = size };
-  control = record { init = 1; running = 0; irqs = 256; irqsset = 0; status = 0; itsinit = 1 };
+  control = record { init = 1; running = 0; irqs = freshIrqs; irqsset = 0; status = 0; itsinit = 1 };
   frames = record { distributor = frameAt 0x08000000; single = frameAt 0x080A0000; its = frameAt 0x08080000 };
   regions = [];
   vcpus = fourVcpus;
-  shared = replicate 7 noBank;
+  shared = replicate (sharedCount freshIrqs) noBank;
   tables = record { devices = pageAt 0x40000000; collections = pageAt 0x40001000 };
 }
 

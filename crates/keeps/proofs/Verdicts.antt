@@ -24,7 +24,7 @@ use Rattle.words.specs.Words.{leAt}
 use Rattle.words.proofs.Rows.{length-rowsOf}
 use Rattle.layout.specs.Layout.{memoryOf, controlOf, framesOf, tablesOf, bankOf, decode}
 use Rattle.rules.specs.Standing.{standing, runSize, regionArea, total, distributorSize, itsSize}
-use Rattle.rules.specs.Rules.{memoryOk, irqsOk, controlOk, frameOk, regionOk, limitOf, framesOk, initOk, distinct, vcpuOk, vcpusOk, lastOk, untouched, tableArea, memoryArea, tableOk, tablesOk, rules}
+use Rattle.rules.specs.Rules.{memoryOk, irqsOk, unsetOk, controlOk, frameOk, regionOk, limitOf, framesOk, initOk, distinct, vcpuOk, vcpusOk, lastOk, untouched, tableArea, memoryArea, tableOk, tablesOk, rules}
 use Rattle.areas.proofs.Tests.{refuted}
 use Rattle.rules.proofs.Parts.{frames-parts, init-parts, init-whole, tables-parts, its-parts, its-whole, rules-parts}
 
@@ -49,9 +49,9 @@ memory-last m end w n s l a z e q =
       ← e,
     ) q
 
--- a count that was set is free, and one that was not is 256
+-- a count that was set is free, and one that was not is judged
 module _ (c : Control) (i : c .init ≤ 1) (r : c .running ≤ c .init) (t : c .itsinit ≤ c .init) (s : c .irqsset ≤ 1) (n : irqsOk (c .irqs) ≡ true) (l : c .status < 16) where
-  counted : controlOk c ≡ (eqb (c .irqsset) 1 || eqb (c .irqs) 256)
+  counted : controlOk c ≡ (eqb (c .irqsset) 1 || unsetOk (c .irqs))
   unfolding controlOk
   counted =
       rw (
@@ -66,7 +66,7 @@ module _ (c : Control) (i : c .init ≤ 1) (r : c .running ≤ c .init) (t : c .
   pub control-set : c .irqsset ≡ 1 → true ≡ controlOk c
   control-set h = rw (counted, eq-eqb (c .irqsset) 1 h)
 
-  pub control-last : (c .irqsset ≡ 1 → ⊥) → eqb (c .irqs) 256 ≡ controlOk c
+  pub control-last : (c .irqsset ≡ 1 → ⊥) → unsetOk (c .irqs) ≡ controlOk c
   control-last h = rw (counted, ne-eqb (c .irqsset) 1 h)
 
 module _ (end size : ℕ) (f : Frame) where

@@ -68,7 +68,7 @@ pub fn memory_ok(m: Memory) -> bool
     areas::ends_by(end, run)
 }
 
-// The marks, the interrupt count, which is 256 unless it was set, and the distributor's STATUSR (§1.9).
+// The marks, the interrupt count, which is one of two unless it was set (§1.17), and the distributor's STATUSR (§1.9).
 fn control_ok(m: Control) -> bool
     ensures { λ r. ⌜ r ≡ controlOk m ⌝ }
 {
@@ -93,7 +93,7 @@ fn control_ok(m: Control) -> bool
     if m.irqsset == 1 {
         return true;
     }
-    m.irqs == 256
+    rules::unset_ok(m.irqs)
 }
 
 // A frame (§1.10); one whose base is not set is all 0 (§1.7).

@@ -16,7 +16,7 @@ use Rattle.guest.specs.declared.Vcpu.{Vcpu}
 use Rattle.guest.specs.Machine.{Machine, initialised, isSet, sharedCount, withControl}
 use Rattle.rules.specs.Standing.{standing, runSize, total, distributorSize, itsSize}
 use Rattle.rules.specs.Rules.{memoryOk, irqsOk, controlOk, frameOk, regionOk, limitOf, framesOk, initOk, distinct, vcpuOk, vcpusOk, lastOk, untouched, tableOk, tablesOk, itsOk, rules}
-use Rattle.rules.proofs.Parts.{count-parts, count-whole}
+use Rattle.rules.proofs.Parts.{Default, count-parts, count-whole}
 use Rattle.guest.specs.Words.{Words, ControlWords}
 use Rattle.kept.specs.Good.{Good}
 use Rattle.kept.proofs.Choice.{choose-by, and-left, and-right, and-both}
@@ -29,7 +29,7 @@ pub record Marks (c : Control) : Type 0 where
   pub irqsset : c .irqsset ≤ 1
   pub irqs : irqsOk (c .irqs) ≡ true
   pub status : c .status < 16
-  pub unset : c .irqsset ≡ 0 → c .irqs ≡ 256
+  pub unset : c .irqsset ≡ 0 → Default (c .irqs)
 
 marks : (c : Control) → controlOk c ≡ true → Marks c
 unfolding controlOk

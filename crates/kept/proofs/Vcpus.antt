@@ -1,6 +1,7 @@
 -- The fresh guest, adding VCPUs, the running mark, the interrupt count, ITS INIT and RESET keep the rules.
 use Prim.Native.Nat.{ℕ, zero, suc, _≤_, _<_, _^_}
 use native.Mathlib.Omega.{arith}
+use mathlib.Core.Logic.{inl, inr}
 use mathlib.Core.Path.{_≡_, refl, sym, ap, _∙_}
 use mathlib.Core.Bool.{Bool, true, false, _&&_, _||_, not}
 use mathlib.Core.List.{List, [], _∷_, _++_, append-nil}
@@ -13,11 +14,11 @@ use Rattle.fields.specs.Field.{getField}
 use Rattle.guest.specs.declared.Control.{Control}
 use Rattle.guest.specs.declared.Vcpu.{Vcpu}
 use Rattle.guest.specs.declared.Bank.{Bank}
-use Rattle.guest.specs.Machine.{Machine, initialised, isSet, noVcpu, noBank, noTables, unplaced, unset, sharedCount, bankBits, fresh, withControl, withShared, withTables, withVcpus}
+use Rattle.guest.specs.Machine.{Machine, initialised, isSet, noVcpu, noBank, noTables, unplaced, unset, sharedCount, bankBits, freshIrqs, fresh, withControl, withShared, withTables, withVcpus}
 use Rattle.areas.specs.Area.{apart, overlaps}
 use Rattle.rules.specs.Standing.{standing}
 use Rattle.rules.specs.Rules.{memoryOk, irqsOk, frameOk, framesOk, initOk, hasAffinity, taken, distinct, vcpuOk, vcpusOk, bankFits, lastOk, freshBank, freshVcpu, untouched, tableOk, tablesOk}
-use Rattle.rules.proofs.Parts.{untouched-parts, untouched-whole}
+use Rattle.rules.proofs.Parts.{Default, untouched-parts, untouched-whole}
 use Rattle.frames.specs.Vcpus.{addVcpu, setRunning, setIrqs, itsInit}
 use Rattle.guest.specs.Words.{FrameWords, BankWords, TableWords}
 use Rattle.kept.specs.Good.{Good, Stays, Keeps}
@@ -309,31 +310,49 @@ addVcpu-keeps a small m h =
     choose-by Stays (leb 64 (length (m .vcpus))) (λ _. h) (λ l.
     added-good a small m h i t (leb-false 64 (length (m .vcpus)) l))))
 
-pub fresh-good : (width start len : ℕ) → width < 2 ^ 64 → start < 2 ^ 64 → len < 2 ^ 64 → memoryOk (record { width = width; start = start; length = len }) ≡ true → Good (fresh width start len)
-unfolding framesOk frameOk standing apart all initOk vcpusOk distinct irqsOk untouched
-fresh-good width start len w s l e =
+-- a guest that is fresh but for its interrupt count
+abbrev pub freshWith : ℕ → ℕ → ℕ → ℕ → Machine
+freshWith n width start len =
+    withShared (replicate (sharedCount n) noBank)
+    (withControl (record { init = 0; running = 0; irqs = n; irqsset = 0; status = 0; itsinit = 0 }) (fresh width start len))
+
+default-irqs : (n : ℕ) → Default n → irqsOk n ≡ true
+unfolding irqsOk
+default-irqs n (inl h) = rw h
+default-irqs n (inr h) = rw h
+
+default-small : (n : ℕ) → Default n → n < 2 ^ 64
+default-small n (inl h) = rw h (lit< tt)
+default-small n (inr h) = rw h (lit< tt)
+
+pub default-good : (n width start len : ℕ) → Default n → width < 2 ^ 64 → start < 2 ^ 64 → len < 2 ^ 64 → memoryOk (record { width = width; start = start; length = len }) ≡ true → Good (freshWith n width start len)
+unfolding framesOk frameOk standing apart all initOk vcpusOk distinct untouched
+default-good n width start len d w s l e =
     good
     (record {
       memory = record { width = w; start = s; length = l };
-      control = record { init = lit< tt; running = lit< tt; irqs = lit< tt; irqsset = lit< tt; status = lit< tt; itsinit = lit< tt };
+      control = record { init = lit< tt; running = lit< tt; irqs = default-small n d; irqsset = lit< tt; status = lit< tt; itsinit = lit< tt };
       frames = record { distributor = no-frame; single = no-frame; its = no-frame };
       regions = none;
       vcpus = none;
-      shared = fresh-banks (sharedCount 256);
+      shared = fresh-banks (sharedCount n);
       tables = record { devices = no-table; collections = no-table };
     })
     (record {
       memory = e;
-      control = record { init = lit≤ tt; running = lit≤ tt; itsinit = lit≤ tt; irqsset = lit≤ tt; irqs = refl; status = lit< tt; unset = λ _. refl };
+      control = record { init = lit≤ tt; running = lit≤ tt; itsinit = lit≤ tt; irqsset = lit≤ tt; irqs = default-irqs n d; status = lit< tt; unset = λ _. d };
       frames = refl;
       init = refl;
       vcpus = refl;
-      shared = refl;
-      last = fresh-last (sharedCount 256);
-      untouched = all-fresh (sharedCount 256);
+      shared = length-replicate (sharedCount n) noBank;
+      last = fresh-last (sharedCount n);
+      untouched = all-fresh (sharedCount n);
       its = lit≤ tt;
-      tables = no-tables (fresh width start len);
+      tables = no-tables (freshWith n width start len);
     })
   where
     no-frame : FrameWords unset
     no-frame = record { set = lit< tt; base = lit< tt }
+
+pub fresh-good : (width start len : ℕ) → width < 2 ^ 64 → start < 2 ^ 64 → len < 2 ^ 64 → memoryOk (record { width = width; start = start; length = len }) ≡ true → Good (fresh width start len)
+fresh-good width start len = default-good freshIrqs width start len (inl refl)

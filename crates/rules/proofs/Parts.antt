@@ -22,7 +22,7 @@ use Rattle.guest.specs.declared.Table.{Table}
 use Rattle.guest.specs.Machine.{Machine, initialised, isSet, sharedCount}
 use Rattle.guest.specs.Words.{BankFits}
 use Rattle.rules.specs.Standing.{standing, runSize, total, distributorSize, itsSize}
-use Rattle.rules.specs.Rules.{memoryOk, irqsOk, controlOk, frameOk, regionOk, limitOf, framesOk, initOk, distinct, vcpuOk, vcpusOk, bankFits, lastOk, freshBank, freshVcpu, untouched, tableArea, memoryArea, tableOk, tablesOk, itsOk, rules}
+use Rattle.rules.specs.Rules.{memoryOk, irqsOk, unsetOk, controlOk, frameOk, regionOk, limitOf, framesOk, initOk, distinct, vcpuOk, vcpusOk, bankFits, lastOk, freshBank, freshVcpu, untouched, tableArea, memoryArea, tableOk, tablesOk, itsOk, rules}
 
 -- a test that is asked only where a mark is set
 chosen : (b : Bool) {x : Bool} → choose b x true ≡ true → b ≡ true → x ≡ true
@@ -106,20 +106,34 @@ module _ (n : ℕ) where
   unfolding irqsOk
   irqs-whole p = join (leb 64 n) irqsTests (le-leb 64 n (p .least), (le-leb n 1024 (p .most), eq-eqb (n % 32) 0 (p .step)))
 
--- the count of a guest that set none
+-- the counts of guests that set none
+abbrev pub Default : ℕ → Type 0
+Default n = (n ≡ 64) ⊎ (n ≡ 256)
+
+default-parts : (n : ℕ) → unsetOk n ≡ true → Default n
+default-parts n e = go (eqb n 64) refl e
+  where
+    go : (b : Bool) → eqb n 64 ≡ b → (b || eqb n 256) ≡ true → Default n
+    go true q u = inl (eqb-true n 64 q)
+    go false q u = inr (eqb-true n 256 u)
+
+default-whole : (n : ℕ) → Default n → unsetOk n ≡ true
+default-whole n (inl h) = rw h
+default-whole n (inr h) = rw h
+
 module _ (c : Control) where
   abbrev counted : Bool
-  counted = eqb (c .irqsset) 1 || eqb (c .irqs) 256
+  counted = eqb (c .irqsset) 1 || unsetOk (c .irqs)
 
-  pub count-parts : counted ≡ true → c .irqsset ≡ 0 → c .irqs ≡ 256
-  count-parts e h = eqb-true (c .irqs) 256 (rw (ne-eqb (c .irqsset) 1 (λ q. omega arith)) at e)
+  pub count-parts : counted ≡ true → c .irqsset ≡ 0 → Default (c .irqs)
+  count-parts e h = default-parts (c .irqs) (rw (ne-eqb (c .irqsset) 1 (λ q. omega arith)) at e)
 
-  pub count-whole : c .irqsset ≤ 1 → (c .irqsset ≡ 0 → c .irqs ≡ 256) → counted ≡ true
+  pub count-whole : c .irqsset ≤ 1 → (c .irqsset ≡ 0 → Default (c .irqs)) → counted ≡ true
   count-whole l f = go (eqb (c .irqsset) 1) refl
     where
-      go : (b : Bool) → eqb (c .irqsset) 1 ≡ b → (b || eqb (c .irqs) 256) ≡ true
+      go : (b : Bool) → eqb (c .irqsset) 1 ≡ b → (b || unsetOk (c .irqs)) ≡ true
       go true q = refl
-      go false q = let n = eqb-false (c .irqsset) 1 q in eq-eqb (c .irqs) 256 (f (omega (arith, l)))
+      go false q = let n = eqb-false (c .irqsset) 1 q in default-whole (c .irqs) (f (omega (arith, l)))
 
 -- the marks
 pub record ControlParts (c : Control) : Type 0 where
@@ -129,7 +143,7 @@ pub record ControlParts (c : Control) : Type 0 where
   pub irqsset : c .irqsset ≤ 1
   pub irqs : irqsOk (c .irqs) ≡ true
   pub status : c .status < 16
-  pub unset : c .irqsset ≡ 0 → c .irqs ≡ 256
+  pub unset : c .irqsset ≡ 0 → Default (c .irqs)
 
 module _ (c : Control) where
   abbrev controlTests : List Bool

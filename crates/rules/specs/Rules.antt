@@ -17,7 +17,7 @@ use Rattle.guest.specs.declared.Bank.{Bank}
 use Rattle.guest.specs.declared.Vcpu.{Vcpu}
 use Rattle.guest.specs.declared.Table.{Table}
 use Rattle.guest.specs.declared.Guest.{Guest}
-use Rattle.guest.specs.Machine.{Machine, Held, view, initialised, isSet, noBank, noVcpu, sharedCount, bankBits}
+use Rattle.guest.specs.Machine.{Machine, Held, view, initialised, isSet, noBank, noVcpu, sharedCount, bankBits, freshIrqs}
 use Rattle.rules.specs.Standing.{standing, runSize, regionArea, total, distributorSize, itsSize}
 
 -- §1.4, §1.9: what set-up asks of the width p and of the run of memory, and each state keeps; 1,073,741,824 is 2^30
@@ -32,13 +32,17 @@ memoryOk r =
 unfoldable pub irqsOk : ℕ → Bool
 irqsOk n = leb 64 n && (leb n 1024 && eqb (n % 32) 0)
 
--- §1.9: marks are 0 or 1; running and ITS INIT are at most VGIC INIT's mark, so only after it; the interrupt count is one of §3.14 and 256
--- if it was not set; the distributor's STATUSR is below 16
+-- §1.9, §1.17: the interrupt counts that a guest can have whose count was not set: a fresh guest's, and 256, which a fresh guest had once
+abbrev pub unsetOk : ℕ → Bool
+unsetOk n = eqb n freshIrqs || eqb n 256
+
+-- §1.9: marks are 0 or 1; running and ITS INIT are at most VGIC INIT's mark, so only after it; the interrupt count is one of §3.14 and, if it
+-- was not set, one of the two above; the distributor's STATUSR is below 16
 unfoldable pub controlOk : Control → Bool
 controlOk c =
     leb (c .init) 1 && (leb (c .running) (c .init) && (leb (c .itsinit) (c .init)
     && (leb (c .irqsset) 1 && (irqsOk (c .irqs) && (ltb (c .status) 16
-    && (eqb (c .irqsset) 1 || eqb (c .irqs) 256))))))
+    && (eqb (c .irqsset) 1 || unsetOk (c .irqs)))))))
 
 -- §1.10: a base that is set is divisible by 65,536 and its frame ends at or below 2^p, the limit; one that is not set is stored as 0
 unfoldable pub frameOk : ℕ → ℕ → Frame → Bool

@@ -15,7 +15,7 @@ ghost use Rattle.lists.specs.Rows.{all};
 ghost use Rattle.areas.specs.Area.{areas};
 ghost use Rattle.guest.specs.Machine.{view, Held};
 ghost use Rattle.rules.specs.Standing.{placed, runSize, regionArea, smallCount, Small, standing, others, total};
-ghost use Rattle.rules.specs.Rules.{irqsOk, taken};
+ghost use Rattle.rules.specs.Rules.{irqsOk, unsetOk, taken};
 
 // The size of the single run (§3.6).
 pub fn run_size(g: Guest) -> u64
@@ -151,6 +151,16 @@ pub fn irqs_ok(n: u64) -> bool
         return false;
     }
     n % 32 == 0
+}
+
+// Whether a guest can have an interrupt count that was not set (§1.17).
+pub fn unset_ok(n: u64) -> bool
+    ensures { λ r. ⌜ r ≡ unsetOk n ⌝ }
+{
+    if n == Guest::FRESH_IRQS {
+        return true;
+    }
+    n == Guest::FORMER_IRQS
 }
 
 // The first address past the address space.

@@ -9,6 +9,7 @@ use Rattle.runs.specs.Frames.{frames}
 use Rattle.runs.specs.Banks.{banks}
 use Rattle.runs.specs.Limits.{limits}
 use Rattle.runs.specs.Broken.{Broken}
+use Rattle.runs.specs.Former.{Former}
 use Rattle.runs.specs.Runs.{GuestRuns}
 
 by-short : Runs wrongLength (zeros 11399)
@@ -54,6 +55,10 @@ by-broken = record {
   behind = (refl, refl, refl);
 }
 
+by-former : Former
+unfolding computed
+by-former = record { kept = refl; later = refl; set = refl; another = refl; again = refl; others = (refl, refl, refl, refl, refl) }
+
 pub guest-runs : GuestRuns
 guest-runs = record {
   lengths = (by-short, by-over);
@@ -63,4 +68,5 @@ guest-runs = record {
   banks = by-banks;
   limits = by-limits;
   broken = by-broken;
+  former = by-former;
 }

@@ -1,4 +1,5 @@
 -- Part 4. Two VCPUs, of affinities 5 and 6.
+use Prim.Native.Nat.{ℕ, _+_, _-_, _/_}
 use mathlib.Core.List.{List, [], _∷_, _++_}
 use Rattle.answers.specs.Answer.{refusal, done}
 use Rattle.step.specs.Step.{setup, vcpuAdd, vgicSet, vgicGet, irqPending, irqSetPending, irqClearPending, irqActivate, irqLine, irqTrigger}
@@ -42,23 +43,25 @@ refusals =
     ∷ irqTrigger 0 1023 0 ⇒ done 0
     ∷ []
 
--- §4.2, §4.9: 256 interrupts: 255 is the last, shared by all VCPUs; 256 and above read 0 and ignore writes
-abbrev pub counted : List Row
-counted =
-    irqSetPending 0 255 ⇒ done 0
-    ∷ irqPending 1 255 ⇒ done 1
-    ∷ irqSetPending 0 256 ⇒ done 0
-    ∷ irqLine 0 256 1 ⇒ done 0
-    ∷ irqPending 0 256 ⇒ done 0
+-- §4.2, §4.9: n interrupts, up to 992: n - 1 is the last, shared by all VCPUs; n and above read 0 and ignore writes
+abbrev pub counted : ℕ → List Row
+counted n =
+    irqSetPending 0 (n - 1) ⇒ done 0
+    ∷ irqPending 1 (n - 1) ⇒ done 1
+    ∷ irqSetPending 0 n ⇒ done 0
+    ∷ irqLine 0 n 1 ⇒ done 0
+    ∷ irqPending 0 n ⇒ done 0
     ∷ irqSetPending 0 1023 ⇒ done 0
     ∷ irqPending 0 1023 ⇒ done 0
-    -- §4.11, §4.13: the latch word of the last bank; §4.9: latch and level word (§4.15) of the next
-    ∷ with (vgicSet 1 0x21C) (word 0xFFFFFFFF) (done 0)
-    ∷ writes (vgicGet 1 0x21C) (word 7) (done 0) (word 0xFFFFFFFF)
-    ∷ with (vgicSet 1 0x220) (word 0xFFFFFFFF) (done 0)
-    ∷ writes (vgicGet 1 0x220) (word 7) (done 0) (word 0)
-    ∷ with (vgicSet 7 256) (word 0xFFFFFFFF) (done 0)
-    ∷ writes (vgicGet 7 256) (word 7) (done 0) (word 0)
+    -- §4.11, §4.13: the latch word of the last bank, four bytes before that of INTID n; §4.9: latch and level word (§4.15) of the next
+    ∷ with (vgicSet 1 (0x200 + n / 8 - 4)) (word 0xFFFFFFFF) (done 0)
+    ∷ writes (vgicGet 1 (0x200 + n / 8 - 4)) (word 7) (done 0) (word 0xFFFFFFFF)
+    ∷ with (vgicSet 1 (0x200 + n / 8)) (word 0xFFFFFFFF) (done 0)
+    ∷ writes (vgicGet 1 (0x200 + n / 8)) (word 7) (done 0) (word 0)
+    ∷ with (vgicSet 7 n) (word 0xFFFFFFFF) (done 0)
+    ∷ writes (vgicGet 7 n) (word 7) (done 0) (word 0)
+    ∷ with (vgicSet 1 (0x200 + n / 8 - 4)) (word 0) (done 0)
+    ∷ irqPending 0 (n - 1) ⇒ done 0
     ∷ []
 
 -- §4.4 to §4.7: 40 as level and as edge; the latch word of its bank, bit 8 (§4.2), is read at 0x204 (§4.11)
@@ -186,9 +189,12 @@ registers =
     ∷ irqPending 0 33 ⇒ done 1
     ∷ []
 
--- Notation: a guest with 1,024 interrupts, INIT done
+-- Notation: a guest whose count is set, INIT done; one with 1,024 interrupts
+abbrev pub having : ℕ → List Row
+having n = setup 40 0x40000000 0x4000 ⇒ done 0 ∷ with (vgicSet 3 0) (word n) (done 0) ∷ ready
+
 abbrev pub wide : List Row
-wide = setup 40 0x40000000 0x4000 ⇒ done 0 ∷ with (vgicSet 3 0) (word 1024) (done 0) ∷ ready
+wide = having 1024
 
 -- §4.17: with a count of 1,024 the bank of INTIDs 992 to 1,019, of which 1,020 to 1,023 are no part
 abbrev pub last : List Row
@@ -240,6 +246,9 @@ last =
     ∷ irqPending 0 1024 ⇒ refusal 22
     ∷ []
 
--- Notation: the lists above, one behind the other; the last has a guest of its own
+-- Notation: the lists above, one behind the other: on a guest that set no count (§1.5: 64), then on one that set 256; the last has a guest of
+-- its own
 abbrev pub banks : List Row
-banks = (setup 40 0x40000000 0x4000 ⇒ done 0 ∷ ready) ++ refusals ++ counted ++ latches ++ own ++ registers ++ last
+banks =
+    (setup 40 0x40000000 0x4000 ⇒ done 0 ∷ ready) ++ refusals ++ counted 64 ++ latches ++ own ++ registers ++ having 256 ++ counted 256
+    ++ last

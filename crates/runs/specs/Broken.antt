@@ -3,17 +3,22 @@ use Prim.Native.Nat.{ℕ}
 use mathlib.Core.List.{List, [], _∷_}
 use Rattle.answers.specs.Answer.{refusal, done}
 use Rattle.words.specs.Words.{putAt}
-use Rattle.step.specs.Step.{setup, vcpuAdd, vcpusStop}
-use Rattle.step.specs.Run.{Row, Runs, _⇒_, after, unmade}
+use Rattle.step.specs.Step.{setup, vcpuAdd, vcpusStop, vgicSet}
+use Rattle.step.specs.Run.{Row, Runs, _⇒_, with, word, after, unmade}
 use Rattle.runs.specs.Banks.{wide}
 
 -- Notation: the state after some calls, with one byte made another
 abbrev pub touched : List Row → ℕ → ℕ → List ℕ
 touched rs at byte = putAt (after rs unmade) at (byte ∷ [])
 
--- Notation: a guest before INIT, with two VCPUs
+-- Notation: a guest before INIT, with two VCPUs and 256 interrupts
 abbrev pub early : List Row
-early = setup 40 0x40000000 0x4000 ⇒ done 0 ∷ vcpuAdd 5 ⇒ done 0 ∷ vcpuAdd 7 ⇒ done 0 ∷ []
+early =
+    setup 40 0x40000000 0x4000 ⇒ done 0
+    ∷ with (vgicSet 3 0) (word 256) (done 0)
+    ∷ vcpuAdd 5 ⇒ done 0
+    ∷ vcpuAdd 7 ⇒ done 0
+    ∷ []
 
 -- Notation: after INIT a stop is accepted on a sound state, and before it a VCPU; on others both are -22 (§1.3)
 abbrev pub Kept : List ℕ → Type 0

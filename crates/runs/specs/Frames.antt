@@ -111,16 +111,17 @@ whole =
     ∷ with (vgicSet 3 0) (word 32) (refusal 22)
     ∷ with (vgicSet 3 0) (word 80) (refusal 22)
     ∷ with (vgicSet 3 0) (word 1056) (refusal 22)
-    ∷ writes (vgicGet 3 0) (word 0) (done 0) (word 256)
+    ∷ writes (vgicGet 3 0) (word 0) (done 0) (word 64)
     ∷ with (vgicSet 3 0) (word 1024) (done 0)
     -- §3.14: set before: a good value, a bad one (and fixed)
     ∷ with (vgicSet 3 0) (word 64) (refusal 16)
     ∷ with (vgicSet 3 0) (word 63) (refusal 22)
     ∷ writes (vgicGet 3 0) (word 0) (done 0) (word 1024)
-    -- §3.14: 256, which a fresh guest has, counts as set too
+    -- §3.14: 64, which a fresh guest has, counts as set too
     ∷ setup 40 0x40000000 0x4000 ⇒ done 0
-    ∷ with (vgicSet 3 0) (word 256) (done 0)
-    ∷ with (vgicSet 3 0) (word 256) (refusal 16)
+    ∷ with (vgicSet 3 0) (word 64) (done 0)
+    ∷ with (vgicSet 3 0) (word 64) (refusal 16)
+    ∷ with (vgicSet 3 0) (word 96) (refusal 16)
     ∷ vcpuAdd 0 ⇒ done 0
     ∷ vcpuAdd 1 ⇒ done 0
     ∷ vcpuAdd 2 ⇒ done 0

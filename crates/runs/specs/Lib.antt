@@ -4,4 +4,5 @@ pub mod Frames
 pub mod Banks
 pub mod Limits
 pub mod Broken
+pub mod Former
 pub mod Runs

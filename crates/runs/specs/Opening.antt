@@ -68,8 +68,8 @@ settingUp =
     -- §1.4, §2.10: up to 2^36 exactly; the largest memory, the largest width
     ∷ setup 36 0xFFFFFF000 0x1000 ⇒ done 0
     ∷ setup 52 0x40000000 0x40000000 ⇒ done 0
-    -- §1.5: a fresh guest has 256 interrupts (§3.15), no base (§3.9), no region (§3.10) and no VCPU (§3.11)
-    ∷ writes (vgicGet 3 0) (word 0) (done 0) (word 256)
+    -- §1.5: a fresh guest has 64 interrupts (§3.15), no base (§3.9), no region (§3.10) and no VCPU (§3.11)
+    ∷ writes (vgicGet 3 0) (word 0) (done 0) (word 64)
     ∷ with (vgicGet 0 2) (long 7) (refusal 2)
     ∷ with (vgicGet 0 3) (long 7) (refusal 2)
     ∷ with (vgicGet 0 5) (long 0) (refusal 2)

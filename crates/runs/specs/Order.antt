@@ -135,7 +135,7 @@ running =
     ∷ vgicSet 4 0 ⇒ done 0
     ∷ with (vgicSet 7 32) (word 1) (done 0)
     ∷ writes (vgicGet 7 32) (word 0) (done 0) (word 1)
-    ∷ writes (vgicGet 3 0) (word 0) (done 0) (word 256)
+    ∷ writes (vgicGet 3 0) (word 0) (done 0) (word 64)
     ∷ irqSetPending 0 3 ⇒ done 0
     ∷ irqPending 0 3 ⇒ done 1
     ∷ with (itsSet 0 4) (long 0x09000000) (done 0)

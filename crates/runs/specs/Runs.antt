@@ -8,6 +8,7 @@ use Rattle.runs.specs.Frames.{frames}
 use Rattle.runs.specs.Banks.{banks}
 use Rattle.runs.specs.Limits.{limits}
 use Rattle.runs.specs.Broken.{Broken}
+use Rattle.runs.specs.Former.{Former}
 
 -- §10.9: each list of calls does on its state what is written beside it
 pub record GuestRuns : Type 0 where
@@ -21,3 +22,5 @@ pub record GuestRuns : Type 0 where
   pub limits : Runs limits unmade
   -- §1.15, §1.16: the states are made by calls, and then one byte is changed
   pub broken : Broken
+  -- §1.17: likewise, and then the count is changed
+  pub former : Former

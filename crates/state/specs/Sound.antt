@@ -10,7 +10,7 @@ use Rattle.mapping.specs.MapRules.{mapRules}
 use Rattle.layout.specs.Layout.{size, decode, countsOk}
 use Rattle.maplayout.specs.MapLayout.{decodeMap, mapCountsOk}
 
--- §1.8: of bytes of the right length: the counts are within their limits, and the guest and its mapping keep the rules §1.9 to §1.14. The
+-- §1.8: of bytes of the right length: the counts are within their limits, and the guest and its mapping keep the rules §1.9 to §1.16. The
 -- test of §1.3
 unfoldable pub sound : List ℕ → Bool
 sound s = countsOk s && (mapCountsOk s && (rules (decode s) && mapRules (decode s) (decodeMap s)))

@@ -1,6 +1,7 @@
 //! Part 4: banks, interrupt calls and registers. Of INTIDs 1,020 to 1,023 and their bank `special` tells.
 
 use super::case::{Case, VGIC};
+use super::special::{whole_bank, whole_interrupt};
 
 pub const CASES: &[(&str, fn(&mut Case))] = &[
     ("§4.3 fresh banks are all 0", fresh),
@@ -38,7 +39,11 @@ pub const CASES: &[(&str, fn(&mut Case))] = &[
     ("§4.15 group 7 reads the affinity for vINTID 0 alone", level_affinity),
     ("§4.15, §2.5 group 7 and the interrupt calls work while running", level_running),
     ("§4.9 past the count all reads 0 and ignores writes", absent_banks),
-    ("§1.5, §4.9 the count of a fresh guest ends at INTID 255", default_count),
+    ("§1.5, §4.2 a fresh guest has one shared bank, INTIDs 32 to 63", default_bank),
+    ("§1.5, §4.9 from INTID 64 on a fresh guest has none, by every way", default_count),
+    ("§1.5, §4.8 of INTIDs that a fresh guest has not the refusals are those of any", default_refusals),
+    ("§4.9, §3.14 a count that is set to 64 ends at INTID 63", smallest_count),
+    ("§4.9, §3.14 a count that is set to 256 ends at INTID 255", larger_count),
     ("§4.16 the bank of one VCPU is not another's", isolation),
     ("§4.11, §4.12 the latch word is the latch, not pending", latch_is_not_pending),
 ];
@@ -69,6 +74,7 @@ pub fn all_zero(c: &mut Case) {
 }
 
 fn level_pending(c: &mut Case) {
+    c.put(3, 0, 256, 0);
     c.ready(1);
     for intid in [16, 31, 32, 100, 255] {
         c.line(0, intid, 1, 0);
@@ -118,6 +124,7 @@ fn edge_pending(c: &mut Case) {
 }
 
 fn edge_rise(c: &mut Case) {
+    c.put(3, 0, 256, 0);
     c.ready(1);
     c.trigger(0, 16, 1 << 20, 0);
     c.trigger(0, 64, 1, 0);
@@ -150,6 +157,7 @@ fn no_second_rise(c: &mut Case) {
 }
 
 fn named_latch(c: &mut Case) {
+    c.put(3, 0, 256, 0);
     c.ready(2);
     c.raise(0, 70, 0);
     c.raise(0, 72, 0);
@@ -203,6 +211,7 @@ fn held_trigger(c: &mut Case, bank: u64, want: u32) {
 }
 
 fn trigger_word(c: &mut Case) {
+    c.put(3, 0, 256, 0);
     c.ready(1);
     c.trigger(0, 35, 0x8000_0001, 0);
     c.trigger(0, 64, 0x0f0f_0f0f, 0);
@@ -310,15 +319,17 @@ pub fn all_irq_calls(c: &mut Case, vcpu: u64, intid: u64, want: i64) {
 }
 
 fn bad_vcpu(c: &mut Case) {
+    c.put(3, 0, 256, 0);
     c.ready(2);
     for vcpu in [2, 3, 64, 256, 1 << 32, (1 << 32) + 1, 1 << 63, u64::MAX] {
-        for intid in [0, 15, 16, 31, 32, 255, 256, 1023, 1024] {
+        for intid in [0, 15, 16, 31, 32, 63, 64, 255, 256, 1023, 1024] {
             all_irq_calls(c, vcpu, intid, -22);
         }
     }
 }
 
 fn bad_intid(c: &mut Case) {
+    c.put(3, 0, 256, 0);
     c.ready(2);
     for intid in [1024, 1025, 8192, 1 << 16, (1 << 16) + 40, 1 << 32, (1 << 32) + 40, 1 << 63, u64::MAX] {
         all_irq_calls(c, 0, intid, -22);
@@ -329,9 +340,10 @@ fn bad_intid(c: &mut Case) {
 }
 
 fn bad_level(c: &mut Case) {
+    c.put(3, 0, 256, 0);
     c.ready(1);
     for level in [2, 3, 255, 256, 1 << 32, (1 << 32) + 1, 1 << 63, u64::MAX] {
-        for intid in [0, 15, 16, 40, 255, 256, 1023] {
+        for intid in [0, 15, 16, 40, 63, 64, 255, 256, 1023] {
             c.line(0, intid, level, -22);
         }
     }
@@ -356,6 +368,7 @@ fn vcpu_matters(c: &mut Case) {
 }
 
 fn latch_words(c: &mut Case) {
+    c.put(3, 0, 256, 0);
     c.ready(1);
     c.put(1, 0x204, 0xdead_beef, 0);
     c.put(1, 0x208, 0x1234_5678, 0);
@@ -398,6 +411,7 @@ fn zero_words(c: &mut Case) {
 }
 
 fn distributor_offsets(c: &mut Case) {
+    c.put(3, 0, 256, 0);
     c.ready(1);
     for offset in (0..0x400).chain(0x1_0000..0x1_0020).chain(0x1_01f0..0x1_0300) {
         let known = offset == 0x10 || (offset % 4 == 0 && (0x200..0x300).contains(&offset));
@@ -501,6 +515,7 @@ fn running(c: &mut Case) {
 }
 
 fn level_words(c: &mut Case) {
+    c.put(3, 0, 256, 0);
     c.ready(1);
     c.trigger(0, 40, 0x0000_ffff, 0);
     c.put(7, 32, 0x00ff_00ff, 0);
@@ -517,6 +532,7 @@ fn level_words(c: &mut Case) {
 }
 
 fn rise_from_stored(c: &mut Case) {
+    c.put(3, 0, 256, 0);
     c.ready(1);
     c.trigger(0, 40, ONES, 0);
     c.put(7, 32, 1 << 8, 0);
@@ -552,6 +568,7 @@ fn level_sgis(c: &mut Case) {
 }
 
 fn level_faults(c: &mut Case) {
+    c.put(3, 0, 256, 0);
     c.ready(1);
     for vintid in [1, 8, 16, 31, 33, 48, 1008, 1023] {
         c.put(7, vintid, 0, -22);
@@ -627,16 +644,93 @@ fn absent_banks(c: &mut Case) {
     c.pending(0, 95, 1);
 }
 
-fn default_count(c: &mut Case) {
+/// From this bank on there is none: whatever is called, no byte of the state changes, and all reads 0.
+pub fn no_banks_from(c: &mut Case, first: u64) {
+    c.idle(|c| {
+        for bank in first..32 {
+            for (group, attribute) in [(1, 0x200 + 4 * bank), (7, 32 * bank)] {
+                c.put(group, attribute, ONES, 0);
+                c.word(group, attribute, 0);
+            }
+            for intid in [32 * bank, 32 * bank + 1, 32 * bank + 31] {
+                c.trigger(0, intid, ONES, 0);
+                c.line(0, intid, 1, 0);
+                c.raise(0, intid, 0);
+                c.pending(0, intid, 0);
+                c.clear(0, intid, 0);
+                c.activate(0, intid, 0);
+                c.line(0, intid, 0, 0);
+                c.trigger(0, intid, 0, 0);
+                c.pending(0, intid, 0);
+            }
+        }
+    });
+}
+
+fn default_bank(c: &mut Case) {
     c.ready(1);
-    c.raise(0, 255, 0);
-    c.pending(0, 255, 1);
-    c.raise(0, 256, 0);
-    c.pending(0, 256, 0);
-    c.put(1, 0x21c, ONES, 0);
-    c.word(1, 0x21c, ONES);
-    c.put(1, 0x220, ONES, 0);
-    c.word(1, 0x220, 0);
+    c.word(1, 0x204, 0);
+    c.word(7, 32, 0);
+    whole_bank(c, 1);
+    (32..64).for_each(|intid| whole_interrupt(c, intid));
+}
+
+/// The last of `count` interrupts and the bank that it is in are there, and no bank behind it is.
+pub fn ends_at(c: &mut Case, count: u64) {
+    let bank = count / 32 - 1;
+    whole_bank(c, bank);
+    c.put(1, 0x200 + 4 * bank, ONES, 0);
+    c.put(7, 32 * bank, 0x5555_5555, 0);
+    c.trigger(0, count - 1, 0x3333_3333, 0);
+    no_banks_from(c, bank + 1);
+    c.word(1, 0x200 + 4 * bank, ONES);
+    c.word(7, 32 * bank, 0x5555_5555);
+    c.clear(0, count, 0);
+    c.pending(0, count - 1, 1);
+    c.clear(0, count - 1, 0);
+    c.pending(0, count - 1, 0);
+}
+
+fn default_count(c: &mut Case) {
+    c.ready(2);
+    ends_at(c, 64);
+    c.start(0);
+    c.idle(|c| {
+        all_irq_calls(c, 1, 64, 0);
+        all_irq_calls(c, 1, 255, 0);
+        c.put(7, 64, ONES, 0);
+        c.word(7, 64, 0);
+        c.put(1, 0x208, ONES, -16);
+    });
+}
+
+fn default_refusals(c: &mut Case) {
+    c.ready(1);
+    for intid in [63, 64, 95, 255, 256, 1023] {
+        all_irq_calls(c, 1, intid, -22);
+        c.line(0, intid, 2, -22);
+        c.line(0, intid, u64::MAX, -22);
+    }
+    for vintid in [65, 80, 95, 97, 255] {
+        c.put(7, vintid, ONES, -22);
+    }
+    c.put(7, 1 << 10 | 64, ONES, -22);
+    c.put(1, 0x209, ONES, -6);
+    c.set(VGIC, 1, 0x208, &[0; 8], -14);
+    c.set(VGIC, 7, 64, &[0; 8], -14);
+}
+
+fn smallest_count(c: &mut Case) {
+    c.put(3, 0, 64, 0);
+    c.ready(1);
+    ends_at(c, 64);
+}
+
+fn larger_count(c: &mut Case) {
+    c.put(3, 0, 256, 0);
+    c.ready(1);
+    (1..8).for_each(|bank| whole_bank(c, bank));
+    ends_at(c, 256);
 }
 
 fn isolation(c: &mut Case) {

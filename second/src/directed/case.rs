@@ -74,6 +74,11 @@ impl<'a> Case<'a> {
         self.still = None;
     }
 
+    /// From here on the guest is one with 256 interrupts that were never set (§1.17).
+    pub fn become_former(&mut self) {
+        self.side.become_former();
+    }
+
     pub fn setup(&mut self, width: u64, start: u64, length: u64, want: i64) {
         self.expect(Call::Setup { width, start, length }, want);
     }

@@ -651,7 +651,7 @@ fn examples(c: &mut Case) {
 }
 
 /// The states of `states`: what is changed in a sound one, and its length.
-fn bad_states(sound: &[u8]) -> [(&'static str, Vec<u8>, i64); 8] {
+fn bad_states(sound: &[u8]) -> [(&'static str, Vec<u8>, i64); 10] {
     let cut = |length: usize, bytes: &[u8]| {
         let mut bytes = bytes.to_vec();
         bytes.resize(length, 0);
@@ -671,6 +671,8 @@ fn bad_states(sound: &[u8]) -> [(&'static str, Vec<u8>, i64); 8] {
         ("a state that is short and not sound", cut(length - 8, &unsound), -14),
         ("a width of 0", unsound, -22),
         ("running is 2", put(layout::RUNNING, 2), -22),
+        ("96 interrupts that were never set", put(layout::IRQS, 96), -22),
+        ("1,024 interrupts that were never set", put(layout::IRQS, 1024), -22),
         ("ITS INIT is 0 and the tables are placed", put(layout::ITS_INIT, 0), -22),
         ("1,025 events", put(layout::EVENTS.count, 1025), -22),
     ]

@@ -44,6 +44,10 @@ pub const CASES: &[(&str, fn(&mut Case))] = &[
     ("§3.13 a number that no VCPU has is -22", redist_bad),
     ("§3.14 the interrupt count is 64, 96 and so on up to 1,024", count_values),
     ("§3.14 the interrupt count is set once, before INIT", count_once),
+    ("§3.14, §1.5 setting the 64 that a fresh guest has counts as set", count_that_stands),
+    ("§3.14 a refused set of the interrupt count does not count as set", count_refused),
+    ("§3.14, §1.5 after INIT a count that was never set is -16 too", count_after_init),
+    ("§3.14, §4.3 the shared banks of a new count are fresh, and there are no more", count_banks),
     ("§3.15 the interrupt count is read at any time", count_read),
     ("§2.5, §3.15 groups 0 and 3 do not look at running", running_is_no_fault),
     ("§3.4 frames may lie over guest memory", over_memory),
@@ -558,9 +562,10 @@ fn count_values(c: &mut Case) {
     for number in [0, 1, 32, 63, 65, 80, 95, 97, 1000, 1023, 1025, 1056, 0x1_0040, 0x8000_0000, u32::MAX] {
         c.put(3, 0, number, -22);
     }
-    c.word(3, 0, 256);
-    for number in [64, 96, 256, 512, 992, 1024] {
+    c.word(3, 0, 64);
+    for number in (64..=1024).step_by(32) {
         c.setup(40, 0, 0x1000, 0);
+        c.word(3, 0, 64);
         c.put(3, 0, number, 0);
         c.word(3, 0, number);
     }
@@ -575,15 +580,99 @@ fn count_once(c: &mut Case) {
     c.put(3, 0, 33, -22);
     c.put(3, 0, 2048, -22);
     c.word(3, 0, 256);
-    c.setup(40, 0, 0x1000, 0);
+    for number in [64, 96, 256, 1024] {
+        c.setup(40, 0, 0x1000, 0);
+        c.put(3, 0, number, 0);
+        no_count(c, -16);
+        c.ready(1);
+        no_count(c, -16);
+        c.word(3, 0, number);
+    }
+}
+
+/// No set of the count is taken; the value's -22 comes first.
+fn no_count(c: &mut Case, want: i64) {
+    (64..=1024).step_by(32).for_each(|number| c.put(3, 0, number, want));
+    [0, 32, 65, 1056].into_iter().for_each(|number| c.put(3, 0, number, -22));
+}
+
+fn count_that_stands(c: &mut Case) {
+    c.word(3, 0, 64);
+    c.put(3, 0, 64, 0);
+    c.word(3, 0, 64);
+    no_count(c, -16);
+    c.word(3, 0, 64);
     c.ready(1);
-    c.put(3, 0, 64, -16);
-    c.put(3, 0, 65, -22);
-    c.word(3, 0, 256);
+    c.word(3, 0, 64);
+    c.raise(0, 63, 0);
+    c.raise(0, 64, 0);
+    c.pending(0, 63, 1);
+    c.pending(0, 64, 0);
+}
+
+/// Each way in which a set of the count is refused on a guest that may set it.
+fn each_refused_count(c: &mut Case) {
+    for number in [0, 32, 63, 65, 255, 1025, 1056, u32::MAX] {
+        c.put(3, 0, number, -22);
+    }
+    for width in [0, 1, 3, 5, 8] {
+        c.set(VGIC, 3, 0, &vec![64; width], -14);
+    }
+    for attribute in [1, 64, 1 << 32, u64::MAX] {
+        c.put(3, attribute, 64, -6);
+    }
+    c.put((1 << 32) + 3, 0, 64, -6);
+    c.set(ITS, 3, 0, &64u32.to_le_bytes(), -6);
+}
+
+fn count_refused(c: &mut Case) {
+    for number in [64, 96, 256, 1024] {
+        c.setup(40, 0, 0x1000, 0);
+        each_refused_count(c);
+        c.word(3, 0, 64);
+        c.put(3, 0, number, 0);
+        c.put(3, 0, number, -16);
+        // On one that has set it they are refused alike.
+        each_refused_count(c);
+        c.word(3, 0, number);
+    }
+}
+
+fn count_after_init(c: &mut Case) {
+    c.ready(1);
+    no_count(c, -16);
+    c.word(3, 0, 64);
+    c.start(0);
+    no_count(c, -16);
+    c.stop(0);
+    each_refused_count(c);
+    c.word(3, 0, 64);
+    c.raise(0, 64, 0);
+    c.pending(0, 64, 0);
+}
+
+fn count_banks(c: &mut Case) {
+    for number in [64, 96, 256, 288, 992, 1024] {
+        c.setup(40, 0, 0x1000, 0);
+        c.put(3, 0, number as u32, 0);
+        c.ready(1);
+        for bank in 1..32 {
+            c.word(1, 0x200 + 4 * bank, 0);
+            c.word(7, 32 * bank, 0);
+            let there = (32 * bank < number) as i64;
+            c.raise(0, 32 * bank, 0);
+            c.pending(0, 32 * bank, there);
+            // A fresh interrupt is level: its line is seen as long as it is up.
+            c.line(0, 32 * bank + 1, 1, 0);
+            c.pending(0, 32 * bank + 1, there);
+            c.line(0, 32 * bank + 1, 0, 0);
+            c.pending(0, 32 * bank + 1, 0);
+        }
+    }
 }
 
 fn count_read(c: &mut Case) {
-    c.word(3, 0, 256);
+    c.word(3, 0, 64);
     c.put(3, 0, 96, 0);
     c.word(3, 0, 96);
     c.ready(1);
@@ -602,8 +691,9 @@ fn running_is_no_fault(c: &mut Case) {
     c.held_base(ITS, 4, 0x0900_0000);
     c.held_base(VGIC, 2, 0x0800_0000);
     c.held_base(VGIC, 3, 0x080a_0000);
-    c.word(3, 0, 256);
+    c.word(3, 0, 64);
     c.put(3, 0, 64, -16);
+    c.put(3, 0, 256, -16);
     c.put(3, 0, 65, -22);
     c.base(2, 0, -17);
 }

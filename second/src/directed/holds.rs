@@ -7,7 +7,7 @@ pub const CASES: &[(&str, fn(&mut Case))] = &[
     ("§1.4 start and length are divisible by 4,096", multiples),
     ("§1.4 length is 4,096 to 2^30", lengths),
     ("§1.4, §2.10 memory may end at 2^p, not above", ends),
-    ("§1.5 a fresh guest has no VCPU, no frame and 256 interrupts", fresh),
+    ("§1.5 a fresh guest has no VCPU, no frame and 64 interrupts", fresh),
     ("§1.4, §2.4 a refused set-up leaves the guest that stands", refused_set_up),
     ("§1.5 an accepted set-up makes the guest fresh again", second_set_up),
     ("§1.6, §3.1 64 VCPUs are taken, a 65th is -12", vcpu_limit),
@@ -61,7 +61,7 @@ fn fresh(c: &mut Case) {
     c.no_get(VGIC, 0, 3, 8, -2);
     c.no_get(ITS, 0, 4, 8, -2);
     c.get(VGIC, 0, 5, &[0; 8], -2, &[0; 8]);
-    c.word(3, 0, 256);
+    c.word(3, 0, 64);
     c.init(-19);
     c.redist(0, -6);
     c.pending(0, 40, -6);
@@ -88,12 +88,15 @@ fn second_set_up(c: &mut Case) {
     c.put(3, 0, 512, 0);
     c.ready(2);
     c.raise(0, 40, 0);
+    c.raise(0, 70, 0);
     c.put(1, 0x10, 7, 0);
     c.its_base(0x0900_0000, 0);
     c.start(0);
     c.setup(41, 0x4000_0000, 0x1000, 0);
     fresh(c);
     c.pending(0, 40, 0);
+    c.pending(0, 70, 0);
+    c.word(1, 0x208, 0);
     c.word(1, 0x10, 0);
 }
 

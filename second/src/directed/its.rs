@@ -28,6 +28,7 @@ pub const CASES: &[(&str, fn(&mut Case))] = &[
     ("§5.14 RESET: -6, running -16, then empty and not placed", reset),
     ("§5.3 placing and commands work while running", running),
     ("§10.10, §4.17 set, clear, activate and line of INTIDs 1,020 to 1,023 leave a mapping", special_intids),
+    ("§1.17, §5.13, §5.14 commands, lookup and RESET of a guest whose count of 256 was never set", former_count),
 ];
 
 pub const MEMORY: u64 = 0x4000_0000;
@@ -515,6 +516,50 @@ fn special_intids(c: &mut Case) {
             c.lookup(3, 1, 8192 + 65_536);
         });
     }
+}
+
+/// A device with an event, and all that can be made of it.
+fn map_and_unmap(c: &mut Case) {
+    c.collection(7, 1, 0);
+    c.collection(9, 3, 0);
+    c.device(3, MEMORY + 0x2000, 5, 0);
+    c.event(3, 1, 8192, 7, 0);
+    c.lookup(3, 1, 8192 + 65_536);
+    c.moved(3, 1, 9, 0);
+    c.lookup(3, 1, 8192 + 3 * 65_536);
+    c.discard(3, 1, 0);
+    c.lookup(3, 1, -2);
+    c.event(3, 2, 9000, 7, 0);
+    c.no_collection(7, -22);
+    c.no_device(3, 0);
+    c.no_collection(7, 0);
+}
+
+fn former_count(c: &mut Case) {
+    c.become_former();
+    c.its_placed(1);
+    map_and_unmap(c);
+    c.reset(0);
+    c.lookup(3, 1, -6);
+    c.word(3, 0, 256);
+    // Found in a guest that has its tables already.
+    c.setup(40, MEMORY, END - MEMORY, 0);
+    c.its_placed(1);
+    c.collection(1, 2, 0);
+    c.device(9, MEMORY + 0x4000, 4, 0);
+    c.event(9, 15, 65_535, 1, 0);
+    c.become_former();
+    c.lookup(9, 15, 65_535 + 2 * 65_536);
+    map_and_unmap(c);
+    c.raise(0, 255, 0);
+    c.lookup(9, 15, 65_535 + 2 * 65_536);
+    c.start(0);
+    c.reset(-16);
+    c.stop(0);
+    c.reset(0);
+    c.pending(0, 255, 1);
+    c.word(3, 0, 256);
+    c.put(3, 0, 64, -16);
 }
 
 fn running(c: &mut Case) {

@@ -6,6 +6,7 @@ mod banks;
 mod case;
 #[cfg(feature = "restore")]
 mod explain;
+mod former;
 mod frames;
 mod holds;
 #[cfg(feature = "its")]
@@ -37,6 +38,7 @@ fn all() -> Vec<Row> {
     rows.extend_from_slice(frames::CASES);
     rows.extend_from_slice(banks::CASES);
     rows.extend_from_slice(special::CASES);
+    rows.extend_from_slice(former::CASES);
     #[cfg(feature = "its")]
     rows.extend_from_slice(its::CASES);
     #[cfg(feature = "its")]

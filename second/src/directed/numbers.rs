@@ -79,7 +79,7 @@ fn unknown_controls(c: &mut Case) {
         c.set(ITS, 4, attribute, &[], -6);
         c.set(ITS, 4, attribute, &[0; 8], -6);
     }
-    c.word(3, 0, 256);
+    c.word(3, 0, 64);
 }
 
 fn name_before_width(c: &mut Case) {
@@ -284,7 +284,7 @@ fn nothing_changes(c: &mut Case) {
     c.base(2, 0x0a00_0000, -17);
     c.region(0, 0x0a00_0000, 1, -22);
     c.its_base(0x0800_0000, -22);
-    c.put(3, 0, 64, -16);
+    c.put(3, 0, 256, -16);
     c.redist(2, -22);
     for call in [Case::raise, Case::clear, Case::activate, Case::pending] {
         call(c, 2, 32, -22);
@@ -303,7 +303,7 @@ fn nothing_changes(c: &mut Case) {
     c.word(1, 0x10, 3);
     c.word(5, 0x10, 0);
     c.word(5, (1 << 32) + 0x10200, 1 << 20);
-    c.word(3, 0, 256);
+    c.word(3, 0, 64);
     c.held_base(VGIC, 2, 0x0800_0000);
     c.no_get(ITS, 0, 4, 8, -2);
     c.redist(1, 0x080c_0000);

@@ -32,6 +32,8 @@ pub const CASES: &[(&str, fn(&mut Case))] = &[
     ("§6.5, §9.6 an entry that no mapping can have is valid", valid_nonsense),
     ("§8.1 what bytes describe depends on memory, tables and VCPUs alone", nothing_else),
     ("§9.8 damage that still describes a mapping is restored", lost_quietly),
+    ("§1.17, §10.8 save and restore of a guest whose count of 256 was never set: it is kept", former_count),
+    ("§1.17, §8.1 a mapping comes back whatever the two counts are, and each guest keeps its own", former_and_fresh),
 ];
 
 pub const LENGTH: usize = 0x10_0000;
@@ -606,4 +608,71 @@ fn lost_quietly(c: &mut Case) {
     check(&[(DEVICES, device(1, ITT, 4) ^ 1 << 63)], [-2, both[1]]);
     check(&[(DEVICES, device(0, ITT, 4))], [both[0], -2]);
     check(&good.map(|(address, _)| (address, 0)), neither);
+}
+
+/// Saves a mapping of two events; what memory holds then.
+fn map_and_save(c: &mut Case) -> Vec<u8> {
+    c.collection(7, 1, 0);
+    c.device(0, ITT, 5, 0);
+    c.device(20, ITT + 0x1000, 5, 0);
+    c.event(0, 1, 8192, 7, 0);
+    c.event(20, 31, 65_535, 7, 0);
+    c.lent(Call::Save, &Memory::filled(MEMORY, LENGTH).bytes, 0)
+}
+
+/// The mapping of `map_and_save` stands, and the count is this one.
+fn came_back(c: &mut Case, count: u32) {
+    c.lookup(0, 1, 8192 + 65_536);
+    c.lookup(20, 31, 65_535 + 65_536);
+    c.word(3, 0, count);
+    c.put(3, 0, 96, -16);
+    let last = count as u64 - 1;
+    c.raise(0, last, 0);
+    c.pending(0, last, 1);
+    c.raise(0, last + 1, 0);
+    c.pending(0, last + 1, 0);
+}
+
+fn former_count(c: &mut Case) {
+    for late in [false, true] {
+        c.setup(40, MEMORY, LENGTH as u64, 0);
+        if !late {
+            c.become_former();
+        }
+        c.its_placed(1);
+        c.raise(0, 40, 0);
+        if late {
+            c.become_former();
+        }
+        let saved = map_and_save(c);
+        c.reset(0);
+        c.lent(Call::Restore, &saved, -6);
+        c.place(DEVICES, 1, COLLECTIONS, 1, 0);
+        c.restore(&[], 0);
+        c.lookup(0, 1, -2);
+        c.restore(&[(COLLECTIONS, collection(7, 4))], -22);
+        c.lent(Call::Restore, &saved, 0);
+        c.pending(0, 40, 1);
+        came_back(c, 256);
+        c.lent(Call::Save, &saved, 0);
+        c.start(0);
+        c.lent(Call::Restore, &saved, -16);
+        c.word(3, 0, 256);
+    }
+}
+
+fn former_and_fresh(c: &mut Case) {
+    c.become_former();
+    c.its_placed(1);
+    let saved = map_and_save(c);
+    c.setup(40, MEMORY, LENGTH as u64, 0);
+    c.its_placed(1);
+    c.lent(Call::Restore, &saved, 0);
+    came_back(c, 64);
+    let saved = c.lent(Call::Save, &saved, 0);
+    c.setup(40, MEMORY, LENGTH as u64, 0);
+    c.become_former();
+    c.its_placed(1);
+    c.lent(Call::Restore, &saved, 0);
+    came_back(c, 256);
 }

@@ -227,7 +227,7 @@ fn trigger_alone(c: &mut Case) {
 }
 
 /// Each way that an interrupt of a shared bank has, from a fresh bank on and back to one.
-fn whole_interrupt(c: &mut Case, intid: u64) {
+pub fn whole_interrupt(c: &mut Case, intid: u64) {
     let (latch, level, mask) = (0x200 + 4 * (intid / 32), 32 * (intid / 32), 1 << (intid % 32));
     c.raise(0, intid, 0);
     c.word(1, latch, mask);
@@ -255,7 +255,7 @@ fn interrupts(c: &mut Case) {
 }
 
 /// The bank's words keep all 32 bits, and its last four are interrupts.
-fn whole_bank(c: &mut Case, bank: u64) {
+pub fn whole_bank(c: &mut Case, bank: u64) {
     for (group, attribute) in [(1, 0x200 + 4 * bank), (7, 32 * bank)] {
         c.put(group, attribute, ONES, 0);
         c.word(group, attribute, ONES);

@@ -11,7 +11,9 @@ pub const VCPU_LIMIT: usize = 64;
 /// §1.6.
 pub const REGION_LIMIT: usize = 32;
 /// §1.5.
-pub const FRESH_COUNT: u32 = 256;
+pub const FRESH_COUNT: u32 = 64;
+/// §1.17: what a fresh guest had once. A guest may still have it without having set it.
+pub const FORMER_COUNT: u32 = 256;
 
 /// Bytes from `start` up to, not with, `end`. In wide numbers no sum wraps (§2.10).
 #[derive(Clone, Copy, Debug, PartialEq, Eq)]
@@ -86,6 +88,16 @@ impl Guest {
             #[cfg(feature = "its")]
             its: Default::default(),
         })
+    }
+
+    /// §1.17: the guest as one that was kept from earlier, with 256 interrupts that were never set. No call does this, so
+    /// that the cases need a way. Banks that it had stay as they are, and those that it had not are fresh.
+    pub fn become_former(&mut self) {
+        let mut banks = fresh_shared(FORMER_COUNT);
+        banks.iter_mut().zip(&self.shared).for_each(|(new, old)| new.clone_from(old));
+        self.shared = banks;
+        self.count = FORMER_COUNT;
+        self.count_set = false;
     }
 
     /// §3.1.

@@ -116,7 +116,7 @@ fn level_attribute(pair: &mut Pair) -> u64 {
 /// Group 3.
 pub fn count(pair: &mut Pair) -> (Call, Vec<u8>) {
     let number = match pair.rng.below(5) {
-        0 => pair.rng.pick(&[0, 32, 63, 64, 65, 96, 992, 1023, 1024, 1025, 1056]),
+        0 => pair.rng.pick(&[0, 32, 63, 64, 65, 96, 256, 992, 1023, 1024, 1025, 1056]),
         1 => pair.rng.word() as u64,
         2 => 16 * pair.rng.below(70),
         _ => 32 * pair.rng.below(40),

@@ -2,16 +2,20 @@
 
 use super::pair::Pair;
 use super::plan::{late_frame, Plan};
-use super::{calls, damage, lengths, observe};
+use super::{calls, damage, former, lengths, observe};
 
 pub fn live(pair: &mut Pair) {
     set_up(pair);
+    if pair.stands() {
+        former::begin(pair);
+    }
     if !pair.stands() {
         return;
     }
     draw_focus(pair);
     let plan = Plan::draw(pair);
     plan.make(pair);
+    former::found(pair);
     draw_focus(pair);
     if pair.guest().initialised {
         for _ in 0..pair.rng.below(4) {

@@ -9,6 +9,7 @@ mod damage;
 mod explained;
 #[cfg(feature = "its")]
 mod far;
+mod former;
 #[cfg(feature = "its")]
 mod its;
 mod lengths;
@@ -49,6 +50,7 @@ struct Depth {
     full_regions: u64,
     tally: Tally,
     special: special::Reach,
+    former: former::Reach,
     #[cfg(feature = "its")]
     tables: [u64; 3],
     #[cfg(feature = "its")]
@@ -65,6 +67,7 @@ impl Depth {
         self.calls += pair.step;
         self.tally.add(&pair.tally);
         self.special.add(&pair.special);
+        self.former.add(&pair.former);
         // A difference at the very first set-up leaves no guest.
         let Some(guest) = &pair.model.guest else { return };
         self.initialised += guest.initialised as u64;
@@ -91,6 +94,7 @@ impl Depth {
             self.calls, self.sequences, self.initialised, self.full_vcpus, self.full_regions
         );
         self.special.tell();
+        self.former.tell();
         #[cfg(feature = "its")]
         println!(
             "random: saves {}, restores accepted {} and refused {}; full collections {}, devices {}, events {}",
@@ -120,6 +124,8 @@ pub fn run(seed: u64, calls: u64, hunt: bool, report: &mut Report) {
     if cfg!(feature = "its") && calls >= DEFAULT_CALLS && !hunt {
         check_reach(&depth.tally, report);
         depth.special.check(report);
+        #[cfg(feature = "restore")]
+        depth.former.check(report);
         #[cfg(feature = "restore")]
         depth.far.check(report);
         #[cfg(feature = "restore")]
@@ -161,9 +167,12 @@ fn one(seed: u64, tell: bool, report: &mut Report) -> Pair {
     pair
 }
 
+/// The guest of `states`: a life of common length, and of a seed that no run comes to.
+const STATES: u64 = u64::MAX;
+
 /// §1.3, §1.4: directed cases about the state's bytes, for the library alone: the model has none.
 pub fn states(report: &mut Report) {
-    let mut pair = one(0, false, report);
+    let mut pair = one(STATES, false, report);
     if !pair.stands() {
         return;
     }

@@ -5,7 +5,7 @@ use super::damage::{agree, Tally};
 use super::explained::Explained;
 #[cfg(feature = "its")]
 use super::far;
-use super::special;
+use super::{former, special};
 #[cfg(feature = "restore")]
 use crate::call::restore_answer;
 use crate::call::{Call, ITS_STEPS};
@@ -29,6 +29,8 @@ pub struct Pair {
     pub tally: Tally,
     /// INTIDs 1,020 to 1,023 and the words of their bank.
     pub special: special::Reach,
+    /// Guests with 256 interrupts that were never set.
+    pub former: former::Reach,
     /// The guest's memory, as the last save left it.
     #[cfg(feature = "its")]
     pub memory: Vec<u8>,
@@ -78,6 +80,7 @@ impl Pair {
             vcpus: Vec::new(),
             tally: Tally::default(),
             special: special::Reach::default(),
+            former: former::Reach::default(),
             #[cfg(feature = "its")]
             memory: Vec::new(),
             #[cfg(feature = "its")]
@@ -125,10 +128,23 @@ impl Pair {
         Some((restored, memory))
     }
 
+    /// The library's state becomes that of a guest with 256 interrupts that were never set (§1.17), and the model takes
+    /// the guest over from its bytes.
+    pub fn become_former(&mut self) {
+        self.library.become_former();
+        if self.tell {
+            println!("      from here on 256 interrupts, never set");
+        }
+        match decode::take_over(self.library.state.content()) {
+            Ok(guest) => self.model.guest = Some(guest),
+            Err(clause) => self.differ(&format!("256 interrupts that were never set: \"{clause}\" is broken")),
+        }
+    }
+
     fn make_one(&mut self, call: Call, lent: Vec<u8>) -> Option<(i64, Vec<u8>)> {
         self.step += 1;
         let lent_before = short(&lent);
-        let kind = special::kind(&call, &lent);
+        let (kind, before) = (special::kind(&call, &lent), former::Count::of(&self.model));
         let result = compare(&mut self.model, &mut self.library, &call, lent);
         if self.tell {
             println!("{:5} {call:x?} lent {lent_before} -> {}", self.step, told(&result));
@@ -138,6 +154,7 @@ impl Pair {
         match result {
             Ok(agreed) => {
                 self.special.count(kind, agreed.0, &self.model);
+                self.former.count(before, &call, &agreed.1, agreed.0);
                 Some(agreed)
             }
             Err(note) => {

@@ -54,7 +54,7 @@ pub fn vcpu(pair: &mut Pair) -> u64 {
 pub fn intid(pair: &mut Pair) -> u64 {
     let count = pair.guest().count as u64;
     match pair.rng.below(24) {
-        0 => pair.rng.pick(&[0, 15, 16, 31, 32, 33, 63, 64, 991, 992, 1019, 1020, 1021, 1023, 1024, 1025]),
+        0 => pair.rng.pick(&[0, 15, 16, 31, 32, 33, 63, 64, 255, 256, 991, 992, 1019, 1020, 1021, 1023, 1024, 1025]),
         1 => (count + pair.rng.below(4)).saturating_sub(2),
         2 => count + pair.rng.below(64),
         3 => {

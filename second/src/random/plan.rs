@@ -2,7 +2,7 @@
 
 use super::pair::Pair;
 use super::pick;
-use super::{attributes, calls};
+use super::{attributes, calls, former};
 use crate::call::{Call, Device};
 use crate::model::guest::Area;
 
@@ -41,11 +41,13 @@ impl Plan {
         };
         let mut steps = vec![Step::Vcpu; vcpus as usize];
         steps.extend(draw_places(pair, vcpus));
+        let unset = if former::Count::of(&pair.model).is_some_and(|guest| guest.former()) { 2 } else { 3 };
         let rng = &mut pair.rng;
         if rng.one_in(2) {
             steps.push(Step::Its);
         }
-        if !rng.one_in(3) {
+        // So that enough of both go to INIT: 64 are left unset by one plan in three, 256 by one in two.
+        if !rng.one_in(unset) {
             steps.push(Step::Count);
         }
         if rng.one_in(2) {
@@ -167,8 +169,9 @@ fn fresh_affinity(pair: &mut Pair) -> u32 {
     }
 }
 
+/// Counts at a border: the smallest, which a fresh guest has unset; 256, which it had once (§1.17); the largest (§4.17).
 fn set_count(pair: &mut Pair) {
-    let number = pair.rng.pick(&[64, 96, 128, 256, 288, 512, 992, 1024, 1024, 1024, 1024]);
+    let number = pair.rng.pick(&[64, 64, 96, 128, 256, 256, 256, 288, 512, 992, 1024, 1024, 1024, 1024, 1024, 1024]);
     let number = if pair.rng.one_in(3) { 32 * pair.rng.between(2, 32) } else { number } as u32;
     pair.make(Call::Set { device: Device::Vgic, group: 3, attribute: 0 }, number.to_le_bytes().to_vec());
 }

@@ -15,7 +15,8 @@ pub fn spoil(rng: &mut Rng, bytes: &mut [u8]) -> String {
 fn once(rng: &mut Rng, bytes: &mut [u8]) -> String {
     match rng.below(32) {
         0..=3 => flip(rng, bytes),
-        4..=12 => field(rng, bytes),
+        4..=11 => field(rng, bytes),
+        12 => unset_count(rng, bytes),
         13 => last_bank(rng, bytes),
         14 => early(rng, bytes),
         15..=17 => count(rng, bytes),
@@ -193,6 +194,13 @@ fn last_bank(rng: &mut Rng, bytes: &mut [u8]) -> String {
     let row = if rng.one_in(4) { 29 } else { 30 };
     let word = layout::BANKS.field(row, rng.below(3) as usize);
     bit(rng, bytes, word, 26, 31)
+}
+
+/// A count that was not set: 64 and 256 stay sound, others do not (§1.9). Behind the banks that stand there may be anything,
+/// which before INIT is mostly no fresh bank.
+fn unset_count(rng: &mut Rng, bytes: &mut [u8]) -> String {
+    let number = rng.pick(&[64, 64, 256, 256, 256, 96, 128, 224, 288, 512, 1024]);
+    write(bytes, layout::IRQS_SET, 0) + ", " + &write(bytes, layout::IRQS, number)
 }
 
 /// A guest as it is before INIT, and mostly one bit of a bank or a STATUSR that is not fresh (§1.16).

@@ -16,13 +16,13 @@ pub const CLAUSES: &[Clause] = &[
     ("memory least", |s| s.length >= 4096),
     ("memory most", |s| s.length <= 1 << 30),
     ("memory end", |s| s.memory().end <= s.top()),
-    // §1.9; the interrupt count as in §3.14.
+    // §1.9; the interrupt count as in §3.14 and, where it was not set, in §1.5 and §1.17.
     ("marks", |s| marks(s).iter().all(|mark| *mark <= 1)),
     ("running", |s| s.running == 0 || s.init != 0),
     ("count least", |s| s.irqs >= 64),
     ("count most", |s| s.irqs <= 1024),
     ("count step", |s| s.irqs % 32 == 0),
-    ("count unset", |s| s.irqs == 256 || s.irqs_set != 0),
+    ("count unset", |s| s.irqs == 64 || s.irqs == 256 || s.irqs_set != 0),
     ("distributor status", |s| s.status < 16),
     // §1.9: within §1.6.
     ("VCPUs most", |s| s.vcpus.count <= 64),

@@ -1,5 +1,6 @@
 -- `keeps::control_ok` meets its contract: a test that fails breaks a part of the rule, and the last one decides. Assumes nothing.
 use native.Mathlib.Omega.{arith}
+use mathlib.Core.Path.{_∙_}
 use Rattle.areas.proofs.Tests.{refuted, clash}
 use Rattle.rules.proofs.Parts.{control-parts}
 use Rattle.keeps.proofs.Verdicts.{control-set, control-last, passed, failed}
@@ -34,12 +35,16 @@ returns-7 c =
     (passed (c .before .before .before .before .before .irqs-ok .ensures) (c .before .before .before .before .if5 .left))
     (omega arith) (c .if7 .taken)
 
+unset-ok-requires : tie.Need-unset-ok-requires
+unset-ok-requires c κs = search needs
+
 returns-8 : tie.Need-returns-8
 returns-8 c =
-    control-last _ (omega arith) (omega arith) (omega arith) (omega arith)
+    c .unset-ok .ensures
+    ∙ control-last _ (omega arith) (omega arith) (omega arith) (omega arith)
     (passed (c .before .before .before .before .before .before .irqs-ok .ensures) (c .before .before .before .before .before .if5 .left))
     (omega arith) (c .before .if7 .left)
 
 pub control-ok-spec : {M : Type 1} → statement M
 control-ok-spec =
-    tie.close (tie.spec returns returns-2 returns-3 returns-4 irqs-ok-requires returns-5 returns-6 returns-7 returns-8)
+    tie.close (tie.spec returns returns-2 returns-3 returns-4 irqs-ok-requires returns-5 returns-6 returns-7 unset-ok-requires returns-8)

@@ -6,26 +6,46 @@ use crate::sides::{Both, Library};
 
 #[derive(Clone, Copy, PartialEq, Eq, Debug)]
 pub enum Base {
-    /// Set up: p 40 and 2 MiB of memory.
+    /// Set up: p 40 and 2 MiB of memory. Here and below the count is 64 and not set, where no other is named.
     Fresh,
     /// Two VCPUs, distributor, single run and ITS frame; INIT would be accepted.
     Early,
+    /// The same with 256 interrupts, set.
+    Wide,
     /// The same with 64 VCPUs and 1,024 interrupts.
     Many,
     /// Early after INIT.
     Single,
-    /// Three VCPUs in regions of 2 and 1, after INIT.
+    /// Three VCPUs in regions of 2 and 1, with 256 interrupts, set, after INIT.
     Regions,
     /// Single after ITS INIT, with its tables placed.
     Placed,
     /// Placed with two devices, two collections and three events.
     Mapped,
-    /// Every limit of §1.6 is reached.
+    /// Every limit of §1.6 is reached, with 1,024 interrupts.
     Full,
+    /// Fresh with 256 interrupts that were never set (§1.17).
+    Former,
+    /// Early with 256 interrupts that were never set.
+    FormerEarly,
+    /// Mapped with 256 interrupts that were never set, and all its banks in use.
+    FormerMapped,
 }
 
-pub const BASES: [Base; 8] =
-    [Base::Fresh, Base::Early, Base::Many, Base::Single, Base::Regions, Base::Placed, Base::Mapped, Base::Full];
+pub const BASES: [Base; 12] = [
+    Base::Fresh,
+    Base::Early,
+    Base::Wide,
+    Base::Many,
+    Base::Single,
+    Base::Regions,
+    Base::Placed,
+    Base::Mapped,
+    Base::Full,
+    Base::Former,
+    Base::FormerEarly,
+    Base::FormerMapped,
+];
 
 pub const TOP: u64 = 1 << 40;
 pub const MEMORY: u64 = 0x4000_0000;
@@ -58,12 +78,18 @@ fn single(c: &mut Case, vcpus: u32) {
     c.base(3, SINGLE, 0);
 }
 
+fn wide(c: &mut Case) {
+    c.put(3, 0, 256, 0);
+    single(c, 2);
+}
+
 fn many(c: &mut Case) {
     c.put(3, 0, 1024, 0);
     single(c, 64);
 }
 
 fn regions(c: &mut Case) {
+    c.put(3, 0, 256, 0);
     frames(c, 3);
     c.region(0, FIRST, 2, 0);
     c.region(1, SECOND, 1, 0);
@@ -100,14 +126,26 @@ fn full(c: &mut Case) {
 
 fn its(c: &mut Case, base: Base) {
     match base {
-        Base::Placed | Base::Mapped => {
+        Base::Full => full(c),
+        _ => {
             single(c, 2);
             placed(c);
         }
-        _ => full(c),
     }
-    if base == Base::Mapped {
+    if [Base::Mapped, Base::FormerMapped].contains(&base) {
         mapped(c);
+    }
+}
+
+/// §1.17: the guest that stands, before INIT or after it. After INIT its banks are used.
+fn former(c: &mut Case, base: Base) {
+    c.become_former();
+    if base == Base::FormerMapped {
+        for bank in 1..8 {
+            c.put(1, 0x200 + 4 * bank, 0x8000_0001 << bank, 0);
+            c.put(7, 32 * bank, u32::MAX >> bank, 0);
+            c.trigger(0, 32 * bank, 0x00ff_00ff << bank, 0);
+        }
     }
 }
 
@@ -117,15 +155,19 @@ pub fn build(base: Base) -> Result<Vec<u8>, String> {
     let mut case = Case::new(&mut both);
     case.setup(40, MEMORY, LENGTH, 0);
     match base {
-        Base::Fresh => {}
-        Base::Early => single(&mut case, 2),
+        Base::Fresh | Base::Former => {}
+        Base::Early | Base::FormerEarly => single(&mut case, 2),
+        Base::Wide => wide(&mut case),
         Base::Many => many(&mut case),
         Base::Single => {
             single(&mut case, 2);
             case.init(0);
         }
         Base::Regions => regions(&mut case),
-        Base::Placed | Base::Mapped | Base::Full => its(&mut case, base),
+        Base::Placed | Base::Mapped | Base::Full | Base::FormerMapped => its(&mut case, base),
+    }
+    if [Base::Former, Base::FormerEarly, Base::FormerMapped].contains(&base) {
+        former(&mut case, base);
     }
     match case.notes.first() {
         None => Ok(both.library.state.content().to_vec()),

@@ -6,7 +6,7 @@ use crate::state::layout::{
     BANKS, COLLECTION_TABLE, DEVICE_TABLE, DISTRIBUTOR, INIT, IRQS, IRQS_SET, ITS, ITS_INIT, MEMORY as SIZE, REGIONS,
     RUNNING, SINGLE, START, STATUS, VCPUS, WIDTH,
 };
-use Base::{Early, Fresh, Full, Placed, Regions, Single};
+use Base::{Early, Former, FormerEarly, FormerMapped, Fresh, Full, Placed, Regions, Single, Wide};
 
 const AFFINITY: usize = 0;
 const LATCH: usize = 1;
@@ -34,6 +34,8 @@ pub const ROWS: &[Row] = &[
     Row("marks", Single, &[(RUNNING, 2)], &[(RUNNING, 1)]),
     Row("marks", Single, &[(RUNNING, 256)], &[(RUNNING, 0)]),
     Row("marks", Fresh, &[(IRQS_SET, u64::MAX)], &[(IRQS_SET, 1)]),
+    Row("marks", Former, &[(IRQS_SET, 2)], &[(IRQS_SET, 1)]),
+    Row("marks", Regions, &[(IRQS_SET, 1 << 32)], &[(IRQS_SET, 0)]),
     Row("marks", Single, &[(ITS_INIT, 2)], &[(ITS_INIT, 1)]),
     Row("marks", Early, &[(DISTRIBUTOR.mark, 2)], &[(DISTRIBUTOR.mark, 1)]),
     Row("marks", Early, &[(SINGLE.mark, 3)], &[(SINGLE.mark, 1)]),
@@ -43,13 +45,23 @@ pub const ROWS: &[Row] = &[
     Row("running", Fresh, &[(RUNNING, 1)], &[(RUNNING, 0)]),
     // §1.9: the interrupt count, as in §3.14.
     Row("count least", Fresh, &[(IRQS_SET, 1), (IRQS, 32)], &[(IRQS_SET, 1), (IRQS, 64)]),
-    Row("count least", Fresh, &[(IRQS_SET, 1), (IRQS, 0)], &[(IRQS_SET, 1), (IRQS, 96)]),
+    Row("count least", Wide, &[(IRQS, 0)], &[(IRQS, 96)]),
     Row("count most", Full, &[(IRQS, 1056)], &[(IRQS, 1024)]),
     Row("count most", Single, &[(IRQS_SET, 1), (IRQS, (1 << 32) + 64)], &[(IRQS_SET, 1), (IRQS, 64)]),
-    Row("count step", Fresh, &[(IRQS_SET, 1), (IRQS, 80)], &[(IRQS_SET, 1), (IRQS, 128)]),
+    Row("count step", Wide, &[(IRQS, 80)], &[(IRQS, 128)]),
     Row("count step", Full, &[(IRQS, 1023)], &[(IRQS, 992)]),
-    Row("count unset", Fresh, &[(IRQS, 224)], &[(IRQS, 224), (IRQS_SET, 1)]),
-    Row("count unset", Single, &[(IRQS, 64)], &[(IRQS, 256)]),
+    // §1.9, §1.17: 64 or 256 where it was not set. Before INIT a larger count needs fresh banks behind the first one, which
+    // a fresh guest has not. Of each count that §3.14 takes `unset_counts` tells.
+    Row("count unset", Wide, &[(IRQS_SET, 0), (IRQS, 224)], &[(IRQS_SET, 0), (IRQS, 256)]),
+    Row("count unset", Former, &[(IRQS, 224)], &[(IRQS, 224), (IRQS_SET, 1)]),
+    Row("count unset", Former, &[(IRQS, 96)], &[(IRQS, 64)]),
+    Row("count unset", FormerEarly, &[(IRQS, 128)], &[(IRQS, 128), (IRQS_SET, 1)]),
+    Row("count unset", Single, &[(IRQS, 96)], &[(IRQS, 64)]),
+    Row("count unset", Single, &[(IRQS, 288)], &[(IRQS, 256)]),
+    Row("count unset", FormerMapped, &[(IRQS, 224)], &[(IRQS, 64)]),
+    Row("count unset", FormerMapped, &[(IRQS, 288)], &[(IRQS, 288), (IRQS_SET, 1)]),
+    Row("count unset", Regions, &[(IRQS_SET, 0), (IRQS, 512)], &[(IRQS_SET, 0)]),
+    Row("count unset", Full, &[(IRQS_SET, 0)], &[(IRQS_SET, 1)]),
     // §1.9: STATUSR.
     Row("distributor status", Single, &[(STATUS, 16)], &[(STATUS, 15)]),
     Row("distributor status", Regions, &[(STATUS, 1 << 32)], &[(STATUS, 8)]),
@@ -74,6 +86,11 @@ pub const FREE: &[(&str, Base, &[Put])] = &[
     ("§1.7 a VCPU behind the last", Single, &[(VCPUS.field(2, AFFINITY), 0), (VCPUS.field(2, LEVEL), 1)]),
     ("§1.7 a region behind the last", Single, &[(REGIONS.field(0, 0), 1), (REGIONS.field(31, 1), u64::MAX)]),
     ("§1.7 a bank behind the last", Single, &[(BANKS.field(7, 0), u64::MAX), (BANKS.field(30, 2), u64::MAX)]),
+    ("§1.7, §1.17 a bank behind the last of 256 never set", FormerMapped, &[(BANKS.field(7, 0), u64::MAX)]),
+    ("§1.17 256 that were set count as never set", Wide, &[(IRQS_SET, 0)]),
+    ("§1.17 256 that were set count as never set after INIT", Regions, &[(IRQS_SET, 0)]),
+    ("§1.17 256 that were never set count as set", FormerEarly, &[(IRQS_SET, 1)]),
+    ("§1.17 256 that were never set count as set after INIT", FormerMapped, &[(IRQS_SET, 1)]),
     ("§1.11 the INIT mark alone is put back", Single, &[(INIT, 0)]),
     ("§1.13 both tables are put back", Placed, &TABLES_GONE),
 ];

@@ -13,7 +13,7 @@ use crate::random::{self, Pair};
 use crate::report::{Kind, Report};
 use crate::sides::Library;
 use crate::state::decode;
-use crate::state::layout::Field;
+use crate::state::layout::{Field, IRQS, IRQS_SET};
 use crate::state::sound::{broken, CLAUSES};
 use bases::{Base, BASES};
 
@@ -109,7 +109,59 @@ pub fn run(report: &mut Report) {
     for (what, base, puts) in free() {
         sound(&format!("{what}, in {base:?} by {puts:x?}"), &changed(&states[*base as usize], puts), report);
     }
+    unset_counts(&states, report);
     set_ups(report);
+    set_ups_over(&states, report);
+}
+
+/// §1.9, §1.17: where it was not set, each count that §3.14 takes is refused but 64 and 256; where it was, none is. Before
+/// INIT and after it, in states in which all 31 shared banks stand.
+fn unset_counts(states: &[Vec<u8>], report: &mut Report) {
+    for base in [Base::Many, Base::Full] {
+        let from = &states[base as usize];
+        for count in (64..=1024).step_by(32) {
+            let (unset, set) = ([(IRQS_SET, 0), (IRQS, count)], [(IRQS_SET, 1), (IRQS, count)]);
+            match count {
+                64 | 256 => sound(&format!("§1.17 {count} never set, in {base:?}"), &changed(from, &unset), report),
+                _ => broken_count(base, from, &unset, &["count unset"], report),
+            }
+            sound(&format!("§1.9 {count} set, in {base:?}"), &changed(from, &set), report);
+        }
+        for (count, clause) in BAD_COUNTS {
+            broken_count(base, from, &[(IRQS_SET, 0), (IRQS, count)], &[clause, "count unset"], report);
+        }
+    }
+}
+
+/// Not set, and no number that §3.14 takes, though its low bits or those around them are.
+const BAD_COUNTS: [(u64, &str); 10] = [
+    (0, "count least"),
+    (32, "count least"),
+    (1056, "count most"),
+    (1 << 32, "count most"),
+    ((1 << 32) + 64, "count most"),
+    ((1 << 32) + 256, "count most"),
+    ((1 << 63) + 256, "count most"),
+    (65, "count step"),
+    (255, "count step"),
+    (257, "count step"),
+];
+
+fn broken_count(base: Base, from: &[u8], puts: &[Put], clauses: &[&str], report: &mut Report) {
+    let (title, bytes) = (format!("§1.9 {clauses:?} broken in {base:?} by {puts:x?}"), changed(from, puts));
+    note(report, Kind::DirectedModel, &format!("directed model: {title}"), judged(&bytes, clauses));
+    note(report, Kind::DirectedLibrary, &format!("directed library: {title}"), refused(from, &bytes));
+}
+
+/// §1.4, §1.5, §1.17: over each of the states a set-up makes a fresh guest.
+fn set_ups_over(states: &[Vec<u8>], report: &mut Report) {
+    for (base, state) in BASES.into_iter().zip(states) {
+        let (mut model, mut library) = (Model::default(), Library::new(state));
+        let call = crate::call::Call::Setup { width: 41, start: 0x8000_0000, length: 0x3000 };
+        let made = random::compare(&mut model, &mut library, &call, vec![]).map(|_| 1);
+        note(report, Kind::DirectedLibrary, &format!("directed library: §1.5 set-up over {base:?}"), made);
+        sound(&format!("§1.5 the fresh bytes over {base:?}"), library.state.content(), report);
+    }
 }
 
 /// §1.4, §1.5: a fresh guest's bytes are sound and hold it, at each bound of set-up and whatever they held before.
