@@ -1,9 +1,11 @@
+#![tactic(auto)]
+
 ghost use Rattle.std.specs.Prelude.{◌≡◌, ◌<◌, ◌^◌};
 ghost use Rattle.answers.specs.Errno.{errnos};
 ghost use Rattle.answers.specs.Answer.{refusal, done};
 
 // The errnos of the refusals (§2.2). Their definitions in the contracts say when each is given.
-#[derive(Drop)]
+#[derive(Clone, Copy)]
 pub struct Errno;
 
 impl Errno {

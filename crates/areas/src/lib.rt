@@ -1,16 +1,18 @@
 // Areas of addresses: whether two share a byte, and the first of a table of areas that one strikes.
+#![tactic(auto)]
+
 ghost use Rattle.std.specs.Prelude.{◌≡◌, ◌++◌, ◌∷◌, [], ◌+◌, ◌≤◌, ◌<◌};
 ghost use Rattle.areas.specs.Area.{overlaps, ends_by, inside, struck, strikes, areas};
 
 // §3.4: a run of addresses, by its start and its size in bytes.
-#[derive(Drop)]
+#[derive(Clone, Copy)]
 pub struct Area {
     pub start: u64,
     pub size: u64,
 }
 
 // A table of areas: room for every frame that can stand, and for every table in memory.
-#[derive(Drop)]
+#[derive(Clone, Copy)]
 pub struct Areas {
     pub rows: [Area; 36],
     pub count: usize,

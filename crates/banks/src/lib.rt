@@ -1,6 +1,8 @@
 // One bank of 32 interrupts: interrupt i of it is bit i of each word.
 // Four functions take a lent bank and change its latch or its level in place. The rest is by value, and changes a latch or a level
 // through those four: so no caller holds a reference to a bank, and callers need no proof by hand.
+#![tactic(auto)]
+
 ghost use Rattle.std.specs.Prelude.{◌≡◌, ◌<◌, ◌≤◌};
 ghost use Rattle.banks.specs.Bank.{
   with_latch,

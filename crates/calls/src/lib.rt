@@ -1,4 +1,6 @@
 // Every call on lent bytes: the test of the state, the step, and the state stored again.
+#![tactic(auto)]
+
 mod commands;
 mod groups;
 
@@ -20,7 +22,7 @@ use mapping::Mapping;
 
 // Calls that may change the state (`change_step` says which paragraph each is). Attributes come with the width of the lent value and its
 // number (§2.8).
-#[derive(Drop)]
+#[derive(Clone, Copy)]
 pub enum Change {
     AddVcpu(u64),
     Start,
@@ -35,7 +37,7 @@ pub enum Change {
 }
 
 // Calls that only ask (`ask_step`); of attributes likewise. A get of a region is told its index by the lent value (§3.10).
-#[derive(Drop)]
+#[derive(Clone, Copy)]
 pub enum Question {
     VgicGet(u64, u64, u64, u64),
     ItsGet(u64, u64, u64),
@@ -44,7 +46,7 @@ pub enum Question {
 }
 
 // The commands of the ITS (part 5 of docs/DEFINITION.md; `command_step`), and RESET with the width of its value (§2.9).
-#[derive(Drop)]
+#[derive(Clone, Copy)]
 pub enum Command {
     Place(u64, u64, u64, u64),
     MapDevice(u64, u64, u64),
@@ -58,7 +60,7 @@ pub enum Command {
 }
 
 // What a command comes to: an errno, 0 for none, and the next guest and mapping.
-#[derive(Drop)]
+#[derive(Clone, Copy)]
 pub struct BoxOutcome {
     pub errno: u64,
     pub guest: Guest,

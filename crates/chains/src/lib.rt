@@ -1,7 +1,8 @@
 // Entries that are chained by distances.
+#![tactic(auto)]
 
 // §9.6: where an entry's next leads: it is the last entry, or the one that follows is at an index, or the next is a fault.
-#[derive(Drop)]
+#[derive(Clone, Copy)]
 pub enum Next {
     Last,
     At(usize),

@@ -1,1 +1,3 @@
 // The claims over every public call: definitions and theorems.
+#![tactic(auto)]
+

@@ -1,4 +1,6 @@
 // The faults of a restore as numbers: the kinds of §13.4, and codes with table, device and entry (§13.6).
+#![tactic(auto)]
+
 ghost use Rattle.std.specs.Prelude.{◌≡◌, ◌^◌, ◌≤◌, ◌<◌};
 ghost use Rattle.tables.specs.Fault.{at_collection, at_device, at_event, place_number};
 ghost use Rattle.codes.specs.Codes.{code_in, Answers};

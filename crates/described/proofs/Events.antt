@@ -19,7 +19,7 @@ use Rattle.tables.specs.Fault.{at_event}
 use Rattle.tables.specs.Saved.{event_id}
 use Rattle.described.specs.Described.{EventFields, Itt}
 use Rattle.tables.specs.Restored.{found, event_tests, put_event, visit_event, read_events}
-use Rattle.lists.proofs.Member.{all_in, all_of, all_map, map_all, length_map, map_back}
+use Rattle.lists.proofs.Member.{all_in, all_of, all_map, map_all, length-map, map_back}
 use Rattle.mapping.specs.Meaning.{Fit}
 use Rattle.mapping.proofs.Meaning.{fits, fit_collected}
 use Rattle.mapping.proofs.Rise.{rising_map}
@@ -116,7 +116,7 @@ module _ (t : List ℕ) (id : ℕ) where
       let a = at_ids k.collections es h in
       let is = map event_id es in
       let f : All (Fit k.collections) (map (event_at t id) is) = rw a h.fit in
-      let r = events_are is k (map_all (event_at t id) is f) (omega (arith, length_map event_id es)) in
+      let r = events_are is k (map_all (event_at t id) is f) (omega (arith, length-map event_id es)) in
       walk_is (event_slots t) (visit_event t id) (event_pos t) is k h.itt.chain ∙ (rw a at r)
 
   -- what is read is described
@@ -135,7 +135,7 @@ module _ (t : List ℕ) (id : ℕ) where
           same = all_map (event_at t id) is (all_of is (λ i m. refl));
           fit = all_map (event_at t id) is r.0;
         },
-        omega (arith, r.1, length_map (event_at t id) is),
+        omega (arith, r.1, length-map (event_at t id) is),
         r.2,
       )
 

@@ -20,7 +20,7 @@ use Rattle.mapping.specs.Mapped.{itt_area}
 use Rattle.mapping.specs.Commands.{device_entries, table_areas}
 use Rattle.mapping.specs.MapRules.{is_placed}
 use Rattle.tables.specs.Bytes.{area_bytes, device_table, itt_table, device_slots, event_slots}
-use Rattle.lists.proofs.Member.{map_append}
+use Rattle.lists.proofs.Member.{map-append}
 
 overlaps_sym : (a b : Area) → overlaps a b ≡ overlaps b a
 unfolding overlaps
@@ -52,7 +52,7 @@ apart_before (x ∷ l) a r p =
 module _ (m : Machine) (ds : List Device) (d : Device) where
   tables_behind : (es : List Device) → table_areas m (ds ++ es) ≡ table_areas m ds ++ map itt_area es
   unfolding table_areas
-  tables_behind es = rw (map_append itt_area ds es)
+  tables_behind es = rw (map-append itt_area ds es)
 
   pub tables_last : apart (table_areas m ds) ≡ true → strikes (table_areas m ds) (itt_area d) ≡ false → apart (table_areas m (ds ++ (d ∷ []))) ≡ true
   tables_last p n = ap apart (tables_behind (d ∷ [])) ∙ apart_last (table_areas m ds) (itt_area d) p n

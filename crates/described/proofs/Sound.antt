@@ -7,7 +7,7 @@ use mathlib.Core.List.{List, [], ◌∷◌, ◌++◌, map, append-nil, append_as
 use lib.ListN.{length, length-append}
 use borrow.Author.Tests.{eq-eqb, ne_eqb}
 use Rattle.lists.proofs.All.{All, none, more, all_append}
-use Rattle.lists.proofs.Member.{here, all_in, all_of, all_weaker, in_left, in_right, map_append}
+use Rattle.lists.proofs.Member.{here, all_in, all_of, all_weaker, in_left, in_right, map-append}
 use Rattle.lists.proofs.Pairs.{alone}
 use Rattle.areas.proofs.Laws.{inside_says, apart_says, apart_is}
 use Rattle.entries.proofs.Laws.{device_of_fits}
@@ -129,7 +129,7 @@ module _ (m : Machine) (mem : List ℕ) (w : Ready m mem) where
         let s = then_says (visit m mem true i k) f h q in
         let v = device_out m mem i k s.0 p.ok.few_events_lem s.1 in
         let part : Part (suc i) (with_device k d v.0) = part_more n k p d v.0 above (omega (arith, w.devices)) v.1 in
-        (with_device k d v.0, part, map_append device_key k.devices (d ∷ []), refl, rw v.2 at s.2)
+        (with_device k d v.0, part, map-append device_key k.devices (d ∷ []), refl, rw v.2 at s.2)
 
   walked : (js : List ℕ) (i n : ℕ) (k h : Mapped) → Part n k → n ≤ i → i < slots.size → Links slots i js → visits (visit m mem true) (i ∷ js) k ≡ found h → Walked k (i ∷ js) h
   walked [] i n k h p above inside l q =

@@ -1,1 +1,3 @@
 // Laws: a restore reads exactly what the bytes describe (§10.6).
+#![tactic(auto)]
+

@@ -1,10 +1,12 @@
+#![tactic(auto)]
+
 ghost use Rattle.std.specs.Prelude.{◌≡◌};
 ghost use Rattle.entries.specs.Device.{DeviceFits, device_word, is_device, device_of};
 ghost use Rattle.entries.specs.Collection.{CollectionFits, collection_word, is_collection, collection_of};
 ghost use Rattle.entries.specs.Event.{EventFits, event_word, is_event, event_of};
 
 // §6.2: an entry of the device table: the distance to the next device, the ITT's address and the number of event ID bits.
-#[derive(Drop)]
+#[derive(Clone, Copy)]
 pub struct DeviceEntry {
     pub next: u64,
     pub itt: u64,
@@ -12,14 +14,14 @@ pub struct DeviceEntry {
 }
 
 // §6.3: an entry of the collection table: the number of a VCPU, and the collection that is for it.
-#[derive(Drop)]
+#[derive(Clone, Copy)]
 pub struct CollectionEntry {
     pub pe: u64,
     pub icid: u64,
 }
 
 // §6.4: an entry of an ITT: the distance to the next event, the LPI and the collection.
-#[derive(Drop)]
+#[derive(Clone, Copy)]
 pub struct EventEntry {
     pub next: u64,
     pub lpi: u64,

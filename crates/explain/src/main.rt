@@ -1,5 +1,7 @@
 // Says why a restore of an image of guest memory is refused. The image is read as crates/image has it; what is written for it is
 // `explained` of specs/Explained.antt.
+#![tactic(auto)]
+
 mod text;
 
 use image::input::Input;

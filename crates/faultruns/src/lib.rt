@@ -1,1 +1,3 @@
 // Computed runs: each fault of a restore by its code.
+#![tactic(auto)]
+

@@ -1,10 +1,12 @@
 // The guest as the code holds it: plain structs by value, tables as arrays with the number of rows in use.
 // What lies past a count is never read.
+#![tactic(auto)]
+
 ghost use Rattle.std.specs.Prelude.{◌≡◌};
 ghost use Rattle.guest.specs.Machine.{view, fresh, no_bank, no_vcpu, bank_bits, Held};
 
 // §1.4: the address width p in bits, and the run of guest memory.
-#[derive(Drop)]
+#[derive(Clone, Copy)]
 pub struct Memory {
     pub width: u64,
     pub start: u64,
@@ -13,7 +15,7 @@ pub struct Memory {
 
 // §1.5, §1.7: the marks, which are 0 or 1, and two numbers. init, itsinit: the INIT is done. irqs: the interrupt count. irqsset: it counts
 // as set (§3.14). status: the distributor's STATUSR (§4.14).
-#[derive(Drop)]
+#[derive(Clone, Copy)]
 pub struct Control {
     pub init: u64,
     pub running: u64,
@@ -24,14 +26,14 @@ pub struct Control {
 }
 
 // §1.7: a base that may not be set: set is 0 or 1.
-#[derive(Drop)]
+#[derive(Clone, Copy)]
 pub struct Frame {
     pub set: u64,
     pub base: u64,
 }
 
 // §3.5: the frames that have one base: the distributor, the single redistributor run and the ITS.
-#[derive(Drop)]
+#[derive(Clone, Copy)]
 pub struct Frames {
     pub distributor: Frame,
     pub single: Frame,
@@ -39,21 +41,21 @@ pub struct Frames {
 }
 
 // §3.7: a redistributor region: room for count redistributors from base.
-#[derive(Drop)]
+#[derive(Clone, Copy)]
 pub struct Region {
     pub base: u64,
     pub count: u64,
 }
 
 // The regions by their index.
-#[derive(Drop)]
+#[derive(Clone, Copy)]
 pub struct Regions {
     pub rows: [Region; 32],
     pub count: usize,
 }
 
 // §4.1: a bank of 32 interrupts, a bit for each in latch, level and trigger (bit set: edge).
-#[derive(Drop)]
+#[derive(Clone, Copy)]
 pub struct Bank {
     pub latch: u64,
     pub level: u64,
@@ -61,7 +63,7 @@ pub struct Bank {
 }
 
 // §3.1, §4.2: a VCPU with its own bank, INTIDs 0 to 31, and its redistributor's STATUSR.
-#[derive(Drop)]
+#[derive(Clone, Copy)]
 pub struct Vcpu {
     pub affinity: u64,
     pub bank: Bank,
@@ -69,21 +71,21 @@ pub struct Vcpu {
 }
 
 // The VCPUs as they were added.
-#[derive(Drop)]
+#[derive(Clone, Copy)]
 pub struct Vcpus {
     pub rows: [Vcpu; 64],
     pub count: usize,
 }
 
 // The shared banks: INTIDs 32 to 63 first.
-#[derive(Drop)]
+#[derive(Clone, Copy)]
 pub struct Banks {
     pub rows: [Bank; 31],
     pub count: usize,
 }
 
 // §5.4, §1.7: where a table lies in memory: set is 0 or 1; pages of 4 KiB.
-#[derive(Drop)]
+#[derive(Clone, Copy)]
 pub struct Table {
     pub set: u64,
     pub start: u64,
@@ -91,14 +93,14 @@ pub struct Table {
 }
 
 // §5.4: the two tables that are placed together.
-#[derive(Drop)]
+#[derive(Clone, Copy)]
 pub struct Tables {
     pub devices: Table,
     pub collections: Table,
 }
 
 // All but the mapping.
-#[derive(Drop)]
+#[derive(Clone, Copy)]
 pub struct Guest {
     pub memory: Memory,
     pub control: Control,
@@ -110,14 +112,14 @@ pub struct Guest {
 }
 
 // What a changing call comes to: an errno, 0 for none, and the next guest.
-#[derive(Drop)]
+#[derive(Clone, Copy)]
 pub struct Outcome {
     pub errno: u64,
     pub guest: Guest,
 }
 
 // §2.1, §2.3: what a question comes to: an errno, 0 for none, and the number asked for.
-#[derive(Drop)]
+#[derive(Clone, Copy)]
 pub struct Reading {
     pub errno: u64,
     pub number: u64,

@@ -1,5 +1,7 @@
 // What the programs that look at an image of guest memory have in common: which bytes are an image, whose memory they are, and how they
 // are read.
+#![tactic(auto)]
+
 pub mod input; // the bytes, and where they come from
 
 ghost use Rattle.std.specs.Prelude.{◌≡◌, length, take};

@@ -4,7 +4,7 @@ use native.Mathlib.Omega.{arith}
 use mathlib.Core.Path.{◌≡◌, refl, sym, ap, ◌∙◌}
 use mathlib.Core.Bool.{Bool, true, ◌&&◌, not}
 use mathlib.Core.List.{List, [], ◌∷◌, map}
-use lib.ListN.{length, get_or, length_map}
+use lib.ListN.{length, get_or, length-map}
 use lib.Dec.{ltb, eqb}
 use borrow.Author.Tests.{lt-ltb}
 use Rattle.lists.specs.Rows.{find_ix}
@@ -53,7 +53,7 @@ distinct_of (a ∷ l) = not (taken_of l a) && distinct_of l
 
 taken_of_lem : (vs : List Vcpu) (a : ℕ) → taken vs a ≡ taken_of (affinities_of vs) a
 unfolding taken taken_of
-taken_of_lem vs a = rw (find_map (λ (v : Vcpu). v.affinity) (λ x. eqb x a) vs, length_map vs (λ (v : Vcpu). v.affinity))
+taken_of_lem vs a = rw (find_map (λ (v : Vcpu). v.affinity) (λ x. eqb x a) vs, length-map vs (λ (v : Vcpu). v.affinity))
 
 distinct_of_lem : (vs : List Vcpu) → distinct vs ≡ distinct_of (affinities_of vs)
 unfolding distinct distinct_of

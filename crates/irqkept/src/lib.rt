@@ -1,1 +1,3 @@
 // Laws: the calls on interrupts keep the rules.
+#![tactic(auto)]
+

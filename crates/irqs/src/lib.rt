@@ -1,4 +1,6 @@
 // Banks of 32 interrupts: reading pending, changes of a latch, a line or a trigger word, and the registers of groups 1, 5 and 7.
+#![tactic(auto)]
+
 pub mod calls;
 pub mod groups;
 mod registers;
@@ -6,7 +8,7 @@ mod spots;
 
 // §4.2, §4.9: where the bank of an INTID is: the own one of a VCPU, by its number; a shared one, by its row, the bank of INTID 32 first;
 // or none, past the interrupt count.
-#[derive(Drop)]
+#[derive(Clone, Copy)]
 pub enum Spot {
     Own(usize),
     Shared(usize),
@@ -15,7 +17,7 @@ pub enum Spot {
 
 // §4.11, §4.12: what an offset of a frame names: the latch word of a bank, by the bank's number; a word that reads 0 and ignores writes;
 // STATUSR; or nothing that is known.
-#[derive(Drop)]
+#[derive(Clone, Copy)]
 pub enum Register {
     Latch(usize),
     Zero,

@@ -1,5 +1,7 @@
 // The ITS mapping commands, §5.4 to §5.13: devices, collections, events, and where the two tables may lie. Each is tried once the ITS
 // is initialised and, but for placing, its tables are placed (§5.3).
+#![tactic(auto)]
+
 ghost use Rattle.std.specs.Prelude.{◌≡◌, true, ◌++◌, map, ◌+◌, ◌^◌, ◌≤◌, get_or};
 ghost use Rattle.lists.specs.Rows.{all};
 ghost use Rattle.areas.specs.Area.{areas};

@@ -6,7 +6,7 @@ use native.Mathlib.Omega.{arith}
 use mathlib.Core.Path.{◌≡◌, refl, sym, ap, ◌∙◌}
 use mathlib.Core.Bool.{Bool, true, false}
 use mathlib.Core.List.{List, [], ◌∷◌, map}
-use lib.ListN.{length, get_or, take, drop, length_map, get_or-map}
+use lib.ListN.{length, get_or, take, drop, length-map, get_or-map}
 use lib.Seq.{take_all}
 use lib.Dec.{leb, eqb}
 use borrow.Author.Tests.{ne_eqb}
@@ -54,7 +54,7 @@ module _ (l : List Region) (n : ℕ) (long : n ≡ length l) (i : ℕ) where
   places = map region_area l
 
   many : n ≡ length places
-  many = long ∙ sym (length_map l region_area)
+  many = long ∙ sym (length-map l region_area)
 
   pub covers_end : (left : ℕ) → n ≤ i → leb left (total (drop i l)) ≡ eqb left 0
   covers_end left h = rw (whole l n long) at (rows.covers-end n l i (fits l n long) left h)

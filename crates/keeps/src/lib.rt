@@ -1,5 +1,7 @@
 // Whether the bytes of a state hold a guest that keeps the rules: the test that they pass before any call goes on. Regions and VCPUs
 // are read where they lie, one row at a time, so that no table is ever copied.
+#![tactic(auto)]
+
 mod banks;
 
 ghost use Rattle.std.specs.Prelude.{◌≡◌, true, map, ◌≤◌, leb, eqb, length, drop};

@@ -4,7 +4,7 @@ use native.Mathlib.Nat.{mul-mod_left, le_trans}
 use native.Mathlib.Omega.{arith}
 use mathlib.Core.Path.{◌≡◌, refl, sym, ◌∙◌}
 use mathlib.Core.Bool.{true, false}
-use mathlib.Core.List.{List, [], ◌∷◌, ◌++◌, map, map_append, append_assoc}
+use mathlib.Core.List.{List, [], ◌∷◌, ◌++◌, map, map-append, append_assoc}
 use lib.ListN.{length, length-append}
 use lib.Dec.{leb, eqb, lit<}
 use borrow.Author.Tests.{leb-true, leb-false, le-leb, lt-ltb, eqb-true, eqb-false, eq-eqb}
@@ -104,7 +104,7 @@ module _ (m : Machine) (c : apart (standing m) ≡ true) where
 
   stand_region : (r : Region) → Fits (region_area r) m → apart (standing (with_regions (m.regions ++ (r ∷ [])) m)) ≡ true
   unfolding standing
-  stand_region r f = joined (at_distributor m ++ at_single m ++ at_regions m) _ (at_its m) refl (simp (map_append, append_assoc)) c f.strikes
+  stand_region r f = joined (at_distributor m ++ at_single m ++ at_regions m) _ (at_its m) refl (simp (map-append, append_assoc)) c f.strikes
 
 frames_good : {f : Frames} {m : Machine} → Good m → FramesWords f → Places (with_frames f m) → (initialised m ≡ true → Ready (with_frames f m)) → m.control.itsinit ≤ f.its.set → Good (with_frames f m)
 unfolding untouched tables_ok

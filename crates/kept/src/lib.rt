@@ -1,1 +1,3 @@
 // Every call on VCPUs and frames keeps the rules of a sound guest: laws, no code.
+#![tactic(auto)]
+

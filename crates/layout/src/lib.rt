@@ -1,4 +1,6 @@
 // The guest's state as lent bytes: loading and storing cost what is in use, not what there is room for.
+#![tactic(auto)]
+
 ghost use Rattle.std.specs.Prelude.{◌≡◌, true, [], ◌∷◌, ◌+◌, ◌*◌, ◌≤◌, ◌<◌, length, take, drop, get_or};
 ghost use Rattle.words.specs.Words.{rows_of, bytes_all, bytes_of, put_at};
 ghost use Rattle.guest.specs.Machine.{view, Held, shared_count, no_region, no_vcpu, no_bank};

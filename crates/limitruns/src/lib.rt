@@ -1,1 +1,3 @@
 // Computed runs up to the limits of the mapping: definitions and laws, no code.
+#![tactic(auto)]
+

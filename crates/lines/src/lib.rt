@@ -1,5 +1,7 @@
 // Text put into a buffer from an index on, and the index after it handed back. Whoever calls shows that the buffer has room, so that
 // nothing is ever cut.
+#![tactic(auto)]
+
 ghost use Rattle.std.specs.Prelude.{◌++◌, ◌∷◌, [], ◌+◌, ◌≤◌, ◌<◌, length};
 ghost use Rattle.lines.specs.Text.{ascii, decimal, hexadecimal, Adds};
 

@@ -1,4 +1,6 @@
 // The rows of a mapping as lines of text. A number takes at most 20 bytes in decimal and 16 in hexadecimal, and one ends it.
+#![tactic(auto)]
+
 ghost use Rattle.std.specs.Prelude.{◌+◌, ◌≤◌, length};
 ghost use Rattle.mapping.specs.Mapped.{rows, Within};
 ghost use Rattle.lines.specs.Text.{Adds};

@@ -48,10 +48,10 @@ module _ {A : Type 0} where
   in_at (x ∷ l) (suc j) d h = there (in_at l j d (le_of_suc-le-suc h))
 
   pub at_in : {x : A} (l : List A) (d : A) → In x l → (j : ℕ) × (j < length l) × (get_or l j d ≡ x)
-  at_in [] d m = absurd (nowhere m)
-  at_in (y ∷ l) d m = ⊎_elim
+  at_in {x = z} [] d m = absurd (nowhere m)
+  at_in {x = z} (y ∷ l) d m = ⊎_elim
       (λ e. (0, omega arith, sym e))
-      (λ n. let r = at_in l d n in let h = r.1 in (suc r.0, omega arith, r.2))
+      (λ n. let r : (j : ℕ) × (j < length l) × (get_or l j d ≡ z) = at_in {x = z} l d n in let h : r.0 < length l = r.1 in (suc r.0, omega arith, r.2))
       (member m)
 
   -- members of two lists joined
@@ -74,13 +74,13 @@ module _ {A B : Type 0} (f : A → B) where
   map_all [] none = none
   map_all (x ∷ l) (more p r) = more p (map_all l r)
 
-  pub length_map : (l : List A) → length (map f l) ≡ length l
-  length_map [] = refl
-  length_map (x ∷ l) = ap suc (length_map l)
+  pub length-map : (l : List A) → length (map f l) ≡ length l
+  length-map [] = refl
+  length-map (x ∷ l) = ap suc (length-map l)
 
-  pub map_append : (l r : List A) → map f (l ++ r) ≡ map f l ++ map f r
-  map_append [] r = refl
-  map_append (x ∷ l) r = ap (λ (s : List B). f x ∷ s) (map_append l r)
+  pub map-append : (l r : List A) → map f (l ++ r) ≡ map f l ++ map f r
+  map-append [] r = refl
+  map-append (x ∷ l) r = ap (λ (s : List B). f x ∷ s) (map-append l r)
 
   -- back and forth
   pub map_back : (g : B → A) (l : List A) → All (λ x. g (f x) ≡ x) l → map g (map f l) ≡ l

@@ -1,5 +1,7 @@
 // Whether a state's bytes keep the rules of the ITS mapping: the test that they pass before any command goes on. Rows are read where
 // they lie, since copies of the tables would take longer than the tests.
+#![tactic(auto)]
+
 ghost use Rattle.std.specs.Prelude.{◌≡◌, true, ◌&&◌, map, ◌≤◌, length, drop, ltb};
 ghost use Rattle.lists.specs.Rows.{all};
 ghost use Rattle.areas.specs.Area.{inside, strikes, apart};

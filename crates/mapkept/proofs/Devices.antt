@@ -3,7 +3,7 @@ use Prim.Native.Nat.{ℕ, suc, ◌<◌, ◌%◌}
 use native.Mathlib.Omega.{arith}
 use mathlib.Core.Path.{◌≡◌, refl, sym, ap, ◌∙◌}
 use mathlib.Core.Bool.{true, false, ◌&&◌}
-use mathlib.Core.List.{List, ◌∷◌, ◌++◌, map, map_append}
+use mathlib.Core.List.{List, ◌∷◌, ◌++◌, map, map-append}
 use lib.ListN.{length, get_or, take, drop, take-append-drop}
 use lib.Seq.{split_at}
 use lib.Dec.{ltb, leb, eqb}
@@ -36,7 +36,7 @@ use Rattle.mapkept.proofs.Sound.{DeviceParts, event_after, Sound, Stays, Keeps, 
 module _ (m : Machine) where
   parted : (l r : List Device) → table_areas m (l ++ r) ≡ table_areas m l ++ map itt_area r
   unfolding table_areas
-  parted l r = ap (λ (a : List Area). table_area m.tables.devices ∷ table_area m.tables.collections ∷ a) (map_append itt_area l r)
+  parted l r = ap (λ (a : List Area). table_area m.tables.devices ∷ table_area m.tables.collections ∷ a) (map-append itt_area l r)
 
   module _ (i : ℕ) (ds : List Device) where
     apart_inserted : (d : Device) → strikes (table_areas m ds) (itt_area d) ≡ false → apart (table_areas m ds) ≡ true → apart (table_areas m (inserted_at i d ds)) ≡ true

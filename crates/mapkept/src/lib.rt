@@ -1,1 +1,3 @@
 // Laws: the mapping commands keep the rules.
+#![tactic(auto)]
+

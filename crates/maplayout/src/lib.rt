@@ -1,4 +1,6 @@
 // The mapping's part of the state as lent bytes: loading and storing cost what is in use, not what there is room for.
+#![tactic(auto)]
+
 ghost use Rattle.std.specs.Prelude.{◌≡◌, true, [], ◌∷◌, ◌+◌, ◌*◌, ◌≤◌, ◌<◌, length, take, drop, get_or};
 ghost use Rattle.words.specs.Words.{rows_of, bytes_all, bytes_of, put_at};
 ghost use Rattle.layout.specs.Layout.{size};

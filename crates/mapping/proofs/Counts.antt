@@ -3,7 +3,7 @@ use Prim.Native.Nat.{ℕ, ◌≤◌, ◌<◌}
 use mathlib.Core.Path.{◌≡◌}
 use mathlib.Core.Bool.{Bool, true, false}
 use mathlib.Core.List.{List}
-use lib.ListN.{length, get_or, take, length_map}
+use lib.ListN.{length, get_or, take, length-map}
 use lib.Seq.{get_or-take, length-take-le}
 use lib.Dec.{ltb}
 use borrow.Author.Tests.{lt-ltb, le-ltb, ltb-true}
@@ -38,9 +38,9 @@ module _ {A : Type 0} (p : A → Bool) (n : ℕ) (l : List A) (r : n ≤ length 
 -- `.good` of a function's entry has it of each parameter that is a mapping
 pub full_of : (k : Mapping) (v : Valss (shape the_type).fields) → shadow (owns (shape the_type).fields (the_type.to k) v) → Full k
 full_of k v o = record {
-  devices = simp length_map at o.0.1.0.1;
-  collections = simp length_map at o.1.1.0.1.0.1;
-  events = simp length_map at o.1.1.1.1.0.1.0.1;
+  devices = simp length-map at o.0.1.0.1;
+  collections = simp length-map at o.1.1.0.1.0.1;
+  events = simp length-map at o.1.1.1.1.0.1.0.1;
 }
 
 module _ (k : Mapping) (f : Full k) (w : Within k) where

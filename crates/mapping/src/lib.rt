@@ -1,5 +1,7 @@
 // The ITS mapping (§5.1) as the code holds it: an array for each kind of row, as long as §1.6 lets it be, and the number of its rows in
 // use. Rows stand in rising order; what lies past a count is never read.
+#![tactic(auto)]
+
 ghost use Rattle.std.specs.Prelude.{◌≡◌, ◌≤◌, ◌<◌, set};
 ghost use Rattle.lists.specs.Rows.{find_ix};
 ghost use Rattle.mapping.specs.Mapped.{rows, Within, Holds, empty, device_key, collection_key, event_key, is_event};
@@ -8,7 +10,7 @@ ghost use Rattle.mapping.specs.Commands.{index_of_device, index_of_collection, i
 ghost use Rattle.mapping.specs.Commands.{with_devices, with_collections, with_events};
 
 // §5.1: a mapped device, by its ID: the address of its interrupt translation table and the number of bits of its event IDs.
-#[derive(Drop)]
+#[derive(Clone, Copy)]
 pub struct Device {
     pub id: u64,
     pub itt: u64,
@@ -16,14 +18,14 @@ pub struct Device {
 }
 
 // §5.1: a mapped collection, by its ICID, and the number of the VCPU that it is for.
-#[derive(Drop)]
+#[derive(Clone, Copy)]
 pub struct Collection {
     pub icid: u64,
     pub pe: u64,
 }
 
 // §5.1: a mapped event, by its device and its event ID: its LPI and the ICID of its collection. Every number is below 65,536.
-#[derive(Drop)]
+#[derive(Clone, Copy)]
 pub struct Event {
     pub device: u16,
     pub event: u16,
@@ -31,7 +33,7 @@ pub struct Event {
     pub icid: u16,
 }
 
-#[derive(Drop)]
+#[derive(Clone, Copy)]
 pub struct Mapping {
     pub devices: [Device; 32],
     pub ndevices: usize,
@@ -42,7 +44,7 @@ pub struct Mapping {
 }
 
 // What a mapping command comes to: an errno, 0 for none, and the next mapping.
-#[derive(Drop)]
+#[derive(Clone, Copy)]
 pub struct Remapped {
     pub errno: u64,
     pub mapping: Mapping,

@@ -1,4 +1,6 @@
 // A fault of a restore as text: its table, the entry's index and its name, all taken out of its code.
+#![tactic(auto)]
+
 ghost use Rattle.std.specs.Prelude.{◌+◌, ◌≤◌, length, ◌++◌};
 ghost use Rattle.lines.specs.Text.{ascii, Adds};
 ghost use Rattle.naming.specs.Naming.{kind_text, place_text, fault_text, kind_of, place_in, fault_of, fault_room};

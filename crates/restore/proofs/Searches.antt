@@ -4,7 +4,7 @@ use native.Mathlib.Omega.{arith}
 use mathlib.Core.Path.{◌≡◌, refl, sym, ap, ◌∙◌}
 use mathlib.Core.Bool.{Bool, true, false, ◌||◌}
 use mathlib.Core.List.{List, [], ◌∷◌, map}
-use lib.ListN.{length, get_or, length_map}
+use lib.ListN.{length, get_or, length-map}
 use lib.Seq.{take_all}
 use borrow.Author.Tests.{lt-ltb, le-ltb, leb-true}
 use Rattle.lists.specs.Rows.{choose, find_ix, all}
@@ -68,14 +68,14 @@ module _ (l : List Device) (a : Area) where
     unfolding strikes struck
     itts_struck h t =
         let f : find_ix (overlaps a) (map itt_area l) ≡ i = find_map (overlaps a) itt_area l ∙ sym (row_here meets no_device l n i e v h t) in
-        let g : length (map itt_area l) ≡ n = length_map l itt_area ∙ sym e in
+        let g : length (map itt_area l) ≡ n = length-map l itt_area ∙ sym e in
         sym (rw (f, g) (lt-ltb i n h))
 
     pub itts_clear : n ≤ i → false ≡ strikes (map itt_area l) a
     unfolding strikes struck
     itts_clear h =
         let f : find_ix (overlaps a) (map itt_area l) ≡ n = find_map (overlaps a) itt_area l ∙ sym (row_end meets no_device l n i e v h) in
-        let g : length (map itt_area l) ≡ n = length_map l itt_area ∙ sym e in
+        let g : length (map itt_area l) ≡ n = length-map l itt_area ∙ sym e in
         sym (rw (f, g) (le-ltb n n (omega arith)))
 
   -- the row at i has few bits

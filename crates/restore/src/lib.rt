@@ -1,6 +1,8 @@
 // A restore: the ITS tables in lent guest memory are read back into the mapping of a state's bytes, row by row. Collections come
 // first, then each device with its events. Faults are met in the order of §9.3 to §9.7; the first is handed back by its code. The bytes
 // are a copy that the caller drops where there is a fault.
+#![tactic(auto)]
+
 mod places; // where tables lie in memory
 mod rows; // the collections read so far
 mod slots; // the chained entries of a table

@@ -1,6 +1,8 @@
 // The C interface. §10.1, §14.13: every promise is one record over `step`, or over `xics_step` for a call on an XICS, the definitions that the
 // claims are stated over: the answer, and the state and the lent bytes at exit, read or written. For every input; none asks anything of
 // the caller.
+#![tactic(auto)]
+
 ghost use Rattle.std.specs.Prelude.{[]};
 ghost use Rattle.step.specs.Step.{step, Leaves, state_len, setup, vcpu_add, vcpus_start, vcpus_stop, vgic_set, its_set, vgic_get, its_get, redist_base, irq_pending, irq_set_pending, irq_clear_pending, irq_activate, irq_line, irq_trigger, its_place, its_map_device, its_unmap_device, its_map_collection, its_unmap_collection, its_map_event, its_discard, its_move, its_lookup, its_save, its_restore, its_explain};
 ghost use Rattle.xics.specs.XicsStep.{xics_step, xics_len, xics_setup, add_server, add_source, set_source, set_server, get_source, get_server, deliverable};

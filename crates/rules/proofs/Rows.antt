@@ -41,13 +41,13 @@ module _ {A : Type 0} where
       go (x ∷ k) (more a b) = more (f x a) (go k b)
 
 module _ {A B : Type 0} (f : A → B) where
-  map_append : (a b : List A) → map f (a ++ b) ≡ map f a ++ map f b
-  map_append [] b = refl
-  map_append (x ∷ a) b = ap (λ (l : List B). f x ∷ l) (map_append a b)
+  map-append : (a b : List A) → map f (a ++ b) ≡ map f a ++ map f b
+  map-append [] b = refl
+  map-append (x ∷ a) b = ap (λ (l : List B). f x ∷ l) (map-append a b)
 
   -- one row more behind what stands
   pub map_more : (base so : List B) (l : List A) (i : ℕ) (d : A) → i < length l → so ≡ base ++ map f (take i l) → so ++ (f (get_or l i d) ∷ []) ≡ base ++ map f (take (i + 1) l)
-  map_more base so l i d h e = rw (e, add-one, take-suc l i d h, map_append, append_assoc)
+  map_more base so l i d h e = rw (e, add-one, take-suc l i d h, map-append, append_assoc)
 
 -- what the size of a region asks
 pub count_small : (n : ℕ) (l : List Region) (i : ℕ) → n ≤ length l → i < n → all small_count (take n l) ≡ true → (get_or l i no_region).count < 4096

@@ -1,4 +1,6 @@
 // The frames that stand, and what the code asks of a guest's tables.
+#![tactic(auto)]
+
 ghost use Rattle.std.specs.Prelude.{◌≡◌, true, ◌++◌, map, ◌+◌, ◌^◌, ◌≤◌, ◌<◌, leb, take, drop};
 ghost use Rattle.lists.specs.Rows.{all};
 ghost use Rattle.areas.specs.Area.{areas};

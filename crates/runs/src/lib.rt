@@ -1,1 +1,3 @@
 // Computed runs of the guest's calls: definitions and laws, no code.
+#![tactic(auto)]
+

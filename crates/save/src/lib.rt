@@ -1,5 +1,7 @@
 // Save (§7.2 to §7.6): the mapping written into lent guest memory. The rows are read where they lie in the state's bytes, one by
 // one, so that no table of them is copied.
+#![tactic(auto)]
+
 ghost use Rattle.std.specs.Prelude.{◌≡◌, ◌++◌, ◌+◌, ◌-◌, ◌*◌, ◌^◌, ◌≤◌, ◌<◌, length};
 ghost use Rattle.words.specs.Words.{bytes_of, put_at};
 ghost use Rattle.layout.specs.Layout.{decode};

@@ -1,5 +1,7 @@
 // Shows the ITS mapping in an image of guest memory, which is read as crates/image has it. What is written for an image is `shown` of
 // specs/Shown.antt.
+#![tactic(auto)]
+
 mod text;
 
 use image::input::Input;

@@ -1,1 +1,3 @@
 // Definitions alone: what each exported call does to lent bytes (specs/Step.antt).
+#![tactic(auto)]
+

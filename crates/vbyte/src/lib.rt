@@ -1,5 +1,7 @@
 // Whether an entry of a device table is there, by the one byte that says so: such a table is mostly blank, and nothing else of a blank entry
 // has a meaning (§6.5).
+#![tactic(auto)]
+
 ghost use Rattle.std.specs.Prelude.{◌≡◌, ◌/◌, ◌<◌, length};
 ghost use Rattle.entries.specs.Device.{is_device};
 ghost use Rattle.tables.specs.Bytes.{entry_at};

@@ -1,5 +1,7 @@
 // The calls on the lent bytes of an XICS (part 14 of docs/DEFINITION.md): the test of the bytes, the refusals in their order, and one row
 // written where it lies.
+#![tactic(auto)]
+
 ghost use Rattle.std.specs.Prelude.{◌≡◌, true, ◌<◌, ◌≤◌, length};
 ghost use Rattle.calls.specs.Call.{Gives};
 ghost use Rattle.xicsrows.specs.XicsLayout.{size, server, source, table, Counted};
@@ -13,7 +15,7 @@ use guest::Reading;
 use xicsrows::{Xics, count, find, is_registered, word_at};
 
 // Calls that may change an XICS; a set has the width of the lent value and its number.
-#[derive(Drop)]
+#[derive(Clone, Copy)]
 pub enum XicsChange {
     AddServer(u64),
     AddSource(u64, u64),

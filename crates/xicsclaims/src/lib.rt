@@ -1,1 +1,3 @@
 // Claims about the calls on an XICS; no code.
+#![tactic(auto)]
+

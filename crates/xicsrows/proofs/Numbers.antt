@@ -6,7 +6,7 @@ use mathlib.Core.Path.{◌≡◌, refl, sym, ap, ap₂, ◌∙◌, subst}
 use mathlib.Core.Bool.{Bool, true, false, ◌&&◌, not, and-eq-true_iff, false≢true}
 use mathlib.Core.Logic.{◌⊎◌, inl, inr, ⊎_elim}
 use mathlib.Core.List.{List, [], ◌∷◌, ◌++◌, map, nil≢cons, head-eq_of_cons-eq, tail-eq_of_cons-eq}
-use lib.ListN.{length, get_or, set, length_map}
+use lib.ListN.{length, get_or, set, length-map}
 use lib.Dec.{ltb, eqb}
 use borrow.Author.Tests.{lt-ltb, ltb-true, eq-eqb, eqb-true, ne_eqb, le-ltb, ltb-false}
 use Rattle.areas.proofs.Tests.{lt_or_ge, and_false, clash}
@@ -123,7 +123,7 @@ numbers_index n (x ∷ l) (y ∷ m) e =
     ap₂ (λ (a : ℕ) (b : ℕ). choose (eqb a n) 0 (suc b)) (head-eq_of_cons-eq e) (numbers_index n l m (tail-eq_of_cons-eq e))
 
 pub numbers_length : (l m : List Row) → numbers l ≡ numbers m → length l ≡ length m
-numbers_length l m e = sym (length_map l (λ (r : Row). r.number)) ∙ ap length e ∙ length_map m (λ (r : Row). r.number)
+numbers_length l m e = sym (length-map l (λ (r : Row). r.number)) ∙ ap length e ∙ length-map m (λ (r : Row). r.number)
 
 pub numbers_registered : (n : ℕ) (l m : List Row) → numbers l ≡ numbers m → registered n l ≡ registered n m
 unfolding registered

@@ -1,4 +1,6 @@
 // The rows of an XICS, read and written where they lie in the lent bytes (§14.2): no table is ever copied. Each function serves both tables.
+#![tactic(auto)]
+
 ghost use Rattle.std.specs.Prelude.{◌≡◌, true, ◌+◌, ◌*◌, ◌<◌, ◌≤◌, length, get_or};
 ghost use Rattle.xicsrows.specs.XicsLayout.{size, rows_at, table, added, worded, cleared, counts_ok, Counted};
 ghost use Rattle.xicsrows.specs.Registered.{no_row, index_of, registered};
@@ -6,7 +8,7 @@ ghost use Rattle.xicsrows.specs.Registered.{no_row, index_of, registered};
 use words::{get64, put64};
 
 // The two tables by number, the length of an XICS, and how many rows a table has room for.
-#[derive(Drop)]
+#[derive(Clone, Copy)]
 pub struct Xics;
 
 impl Xics {

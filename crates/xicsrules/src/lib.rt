@@ -1,4 +1,6 @@
 // Whether the bytes of an XICS are sound (§14.12): the test that they pass before any call goes on. Rows are read where they lie.
+#![tactic(auto)]
+
 ghost use Rattle.std.specs.Prelude.{◌≡◌, ◌&&◌, ◌<◌, ◌≤◌, length, get_or};
 ghost use Rattle.lists.specs.Rows.{all};
 ghost use Rattle.xicsrows.specs.XicsLayout.{size, server, source, table, Counted};

@@ -1,4 +1,6 @@
 // The words of an XICS (§14.5, §14.6), by the fields of crates/fields.
+#![tactic(auto)]
+
 ghost use Rattle.std.specs.Prelude.{◌≡◌};
 ghost use Rattle.xicswords.specs.Word.{destination, narrow, paired, trimmed, is_trimmed, fresh_server, fresh_source, delivers};
 

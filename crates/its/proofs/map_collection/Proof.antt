@@ -2,7 +2,7 @@
 use mathlib.Core.Bool.{true, ◌&&◌}
 use mathlib.Core.Path.{◌≡◌}
 use lib.Dec.{ltb}
-use lib.ListN.{length_map, length}
+use lib.ListN.{length-map, length}
 use lib.Seq.{length-take-le}
 use borrow.Author.Rules.{rules}
 use borrow.Author.Tests.{le-leb, lt-leb, lt-ltb, le-ltb}
@@ -20,7 +20,7 @@ full s = full_of _ _ s.well-formed.1.0.1.1
 
 vcpus : (s : tie.Start) → length (view s.args.g).vcpus ≡ s.args.g.vcpus.count
 vcpus s =
-    let l : length s.args.g.vcpus.rows ≡ 64 = simp length_map at s.well-formed.0.1.1.1.1.1.1.0.1.1.0.1.0.1 in
+    let l : length s.args.g.vcpus.rows ≡ 64 = simp length-map at s.well-formed.0.1.1.1.1.1.1.0.1.1.0.1.0.1 in
     length-take-le _ _ (rw l s.requires.guest.held.vcpus)
 
 -- the numbers are in range

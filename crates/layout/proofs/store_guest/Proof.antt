@@ -1,6 +1,6 @@
 use native.Mathlib.Omega.{arith}
 use mathlib.Core.Path.{◌≡◌, sym}
-use lib.ListN.{length, length_map}
+use lib.ListN.{length, length-map}
 use lib.Seq.{length-take-le}
 use Rattle.guest.specs.Machine.{view}
 use Rattle.layout.proofs.Stored.{stored_of}
@@ -32,8 +32,8 @@ returns c =
     let s = p1.before.before.before.before.before.before.before.before.before.before.before.before.before in
     let g = s.args.g in
     let o = s.well-formed.1.0.1.1 in
-    let lr : length g.regions.rows ≡ 32 = simp length_map at o.1.1.1.0.1.1.0.1.0.1 in
-    let lv : length g.vcpus.rows ≡ 64 = simp length_map at o.1.1.1.1.0.1.1.0.1.0.1 in
+    let lr : length g.regions.rows ≡ 32 = simp length-map at o.1.1.1.0.1.1.0.1.0.1 in
+    let lv : length g.vcpus.rows ≡ 64 = simp length-map at o.1.1.1.1.0.1.1.0.1.0.1 in
     let hr = s.requires.1.regions in
     let hv = s.requires.1.vcpus in
     stored_of (view g) _ _ _ _ _ _ _ (sym (length-take-le _ g.regions.rows (omega arith))) (sym (length-take-le _ g.vcpus.rows (omega arith)))

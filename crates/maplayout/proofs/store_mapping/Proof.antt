@@ -1,6 +1,6 @@
 use native.Mathlib.Omega.{arith}
 use mathlib.Core.Path.{◌≡◌, sym}
-use lib.ListN.{length, length_map}
+use lib.ListN.{length, length-map}
 use lib.Seq.{length-take-le}
 use Rattle.mapping.specs.Mapped.{rows}
 use Rattle.maplayout.proofs.Stored.{stored_of}
@@ -32,9 +32,9 @@ returns c =
     let s = p1.before.before.before.before.before.before in
     let k = s.args.k in
     let o = s.well-formed.1.0.1.1 in
-    let ld : length k.devices ≡ 32 = simp length_map at o.0.1.0.1 in
-    let lc : length k.collections ≡ 16 = simp length_map at o.1.1.0.1.0.1 in
-    let le : length k.events ≡ 1024 = simp length_map at o.1.1.1.1.0.1.0.1 in
+    let ld : length k.devices ≡ 32 = simp length-map at o.0.1.0.1 in
+    let lc : length k.collections ≡ 16 = simp length-map at o.1.1.0.1.0.1 in
+    let le : length k.events ≡ 1024 = simp length-map at o.1.1.1.1.0.1.0.1 in
     let w = s.requires.1 in
     stored_of (rows k) _ _ _ _ _ _ _ _ (sym (length-take-le _ k.devices (omega arith)))
     (sym (length-take-le _ k.collections (omega arith))) (sym (length-take-le _ k.events (omega arith)))

@@ -4,7 +4,7 @@ use Prim.Native.Nat.{◌≤◌, ◌-◌}
 use native.Mathlib.Omega.{arith}
 use mathlib.Core.Path.{◌≡◌, refl, sym, ◌∙◌}
 use lib.Dec.{leb}
-use lib.ListN.{length, take, drop, length_map}
+use lib.ListN.{length, take, drop, length-map}
 use borrow.Author.Rules.{rules}
 use Rattle.rules.specs.Standing.{total}
 use Rattle.rules.proofs.Rows.{covers_here, covers_later, covers_end}
@@ -29,7 +29,7 @@ element-copy-out-row c = search rules
 returns : tie.Need-returns invariant-loop decreases-loop
 returns c =
     let s = c.before.before.before.before.before in
-    let l : length s.args.t1.rows ≡ 32 = simp length_map at s.well-formed.0.1.1.0.1.0.1 in
+    let l : length s.args.t1.rows ≡ 32 = simp length-map at s.well-formed.0.1.1.0.1.0.1 in
     sym (c.before.before.before.before.loop.invariant.1
     ∙ covers_here s.args.t1.count s.args.t1.rows _ (omega (arith, s.requires)) _ c.before.before.before.loop-test.true c.if1.true)
 
@@ -45,7 +45,7 @@ loop-less c = search rules
 loop-again : tie.Need-loop-preserved invariant-loop decreases-loop
 loop-again c =
     let s = c.before.before.before.before.before.before in
-    let l : length s.args.t1.rows ≡ 32 = simp length_map at s.well-formed.0.1.1.0.1.0.1 in (
+    let l : length s.args.t1.rows ≡ 32 = simp length-map at s.well-formed.0.1.1.0.1.0.1 in (
       omega arith,
       c.before.before.before.before.before.loop.invariant.1
           ∙ covers_later s.args.t1.count s.args.t1.rows _ (omega (arith, s.requires)) _ c.before.before.before.before.loop-test.true c.before.if1.false,
@@ -54,7 +54,7 @@ loop-again c =
 returns-2 : tie.Need-returns-2 invariant-loop decreases-loop
 returns-2 c =
     let s = c.before.before in
-    let l : length s.args.t1.rows ≡ 32 = simp length_map at s.well-formed.0.1.1.0.1.0.1 in
+    let l : length s.args.t1.rows ≡ 32 = simp length-map at s.well-formed.0.1.1.0.1.0.1 in
     sym (c.before.loop.invariant.1
     ∙ covers_end s.args.t1.count s.args.t1.rows _ (omega (arith, s.requires)) _ c.loop-test.false)
 

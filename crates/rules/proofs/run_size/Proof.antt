@@ -2,7 +2,7 @@
 use Rattle.guest.specs.Machine.{view}
 use native.Mathlib.Omega.{arith}
 use mathlib.Core.Path.{◌≡◌}
-use lib.ListN.{length, length_map}
+use lib.ListN.{length, length-map}
 use lib.Seq.{length-take-le}
 use Rattle.rules.proofs.Built.{run_whole, run_first}
 use borrow.Author.Rules.{rules}
@@ -15,7 +15,7 @@ mul-result c = search rules
 returns : tie.Need-returns
 returns c =
     let s = c.before.before.before.before in
-    let l : length s.args.g.vcpus.rows ≡ 64 = simp length_map at s.well-formed.0.1.1.1.1.1.1.0.1.1.0.1.0.1 in
+    let l : length s.args.g.vcpus.rows ≡ 64 = simp length-map at s.well-formed.0.1.1.1.1.1.1.0.1.1.0.1.0.1 in
     run_whole (view s.args.g) s.args.g.vcpus.count c.if1.true (length-take-le s.args.g.vcpus.count s.args.g.vcpus.rows (omega (arith, s.requires.vcpus)))
 
 returns-2 : tie.Need-returns-2

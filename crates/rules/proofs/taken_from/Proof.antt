@@ -3,7 +3,7 @@
 use Prim.Native.Nat.{◌≤◌, ◌-◌}
 use native.Mathlib.Omega.{arith}
 use mathlib.Core.Path.{◌≡◌, refl, sym, ◌∙◌}
-use lib.ListN.{length, take, drop, length_map}
+use lib.ListN.{length, take, drop, length-map}
 use borrow.Author.Tests.{ne_eqb}
 use borrow.Author.Rules.{rules}
 use Rattle.rules.specs.Rules.{taken}
@@ -29,7 +29,7 @@ element-copy-out-row c = search rules
 returns : tie.Need-returns invariant-loop decreases-loop
 returns c =
     let s = c.before.before.before.before.before in
-    let l : length s.args.t1.rows ≡ 64 = simp length_map at s.well-formed.0.1.1.0.1.0.1 in
+    let l : length s.args.t1.rows ≡ 64 = simp length-map at s.well-formed.0.1.1.0.1.0.1 in
     sym (c.before.before.before.before.loop.invariant.1
     ∙ taken_here s.args.t1.count s.args.t1.rows _ (omega (arith, s.requires)) _ c.before.before.before.loop-test.true c.if1.true)
 
@@ -42,7 +42,7 @@ loop-less c = search rules
 loop-again : tie.Need-loop-preserved invariant-loop decreases-loop
 loop-again c =
     let s = c.before.before.before.before.before in
-    let l : length s.args.t1.rows ≡ 64 = simp length_map at s.well-formed.0.1.1.0.1.0.1 in (
+    let l : length s.args.t1.rows ≡ 64 = simp length-map at s.well-formed.0.1.1.0.1.0.1 in (
       omega arith,
       c.before.before.before.before.loop.invariant.1
           ∙ taken_later s.args.t1.count s.args.t1.rows _ (omega (arith, s.requires)) _ c.before.before.before.loop-test.true (ne_eqb _ _ c.if1.false),
@@ -51,7 +51,7 @@ loop-again c =
 returns-2 : tie.Need-returns-2 invariant-loop decreases-loop
 returns-2 c =
     let s = c.before.before in
-    let l : length s.args.t1.rows ≡ 64 = simp length_map at s.well-formed.0.1.1.0.1.0.1 in
+    let l : length s.args.t1.rows ≡ 64 = simp length-map at s.well-formed.0.1.1.0.1.0.1 in
     sym (c.before.loop.invariant.1
     ∙ taken_end s.args.t1.count s.args.t1.rows _ (omega (arith, s.requires)) _ c.loop-test.false)
 

@@ -2,7 +2,7 @@
 use Prim.Native.Nat.{◌+◌, ◌≤◌, ◌-◌}
 use native.Mathlib.Omega.{arith}
 use mathlib.Core.Path.{◌≡◌, sym, ◌∙◌}
-use lib.ListN.{length, take, length_map}
+use lib.ListN.{length, take, length-map}
 use borrow.Author.Rules.{rules}
 use mathlib.Core.List.{◌++◌, map, append-nil}
 use Rattle.areas.specs.Area.{areas}
@@ -29,7 +29,7 @@ element-copy-out-row c = search rules
 mul-t14 : tie.Need-overflow-mul-t14 invariant-loop decreases-loop
 mul-t14 c =
     let s = c.before.before.before.before in
-    let l : length s.args.t2.rows ≡ 32 = simp length_map at s.well-formed.1.0.1.1.0.1.0.1 in
+    let l : length s.args.t2.rows ≡ 32 = simp length-map at s.well-formed.1.0.1.1.0.1.0.1 in
     omega (arith, count_small s.args.t2.count s.args.t2.rows c.before.before.before.loop.i (omega (arith, s.requires)) c.before.before.loop-test.true s.requires.2)
 
 with-area-requires : tie.Need-with-area-requires invariant-loop decreases-loop
@@ -44,7 +44,7 @@ loop-less c = search rules
 loop-again : tie.Need-loop-preserved invariant-loop decreases-loop
 loop-again c =
     let s = c.before.before.before.before.before in
-    let l : length s.args.t2.rows ≡ 32 = simp length_map at s.well-formed.1.0.1.1.0.1.0.1 in (
+    let l : length s.args.t2.rows ≡ 32 = simp length-map at s.well-formed.1.0.1.1.0.1.0.1 in (
       omega arith,
       omega arith,
       c.with-area.ensures.0

@@ -1,6 +1,6 @@
 -- `frames::bases::add_region` meets its contract. Assumes nothing.
 use mathlib.Core.Path.{◌≡◌, ◌∙◌, sym}
-use lib.ListN.{length, take, length_map}
+use lib.ListN.{length, take, length-map}
 use borrow.Author.Rules.{rules}
 use borrow.Author.Tests.{eq-eqb, ne_eqb}
 use Rattle.frames.proofs.Faults.{region_free}
@@ -12,7 +12,7 @@ use Rattle.frames.proofs.bases.add_region.Tie as tie
 
 -- the number of regions
 count : (s : tie.Start) → length (take s.args.g.regions.count s.args.g.regions.rows) ≡ s.args.g.regions.count
-count s = region_count s.args.g s.requires.held (simp length_map at s.well-formed.0.1.1.1.1.1.0.1.1.0.1.0.1)
+count s = region_count s.args.g s.requires.held (simp length-map at s.well-formed.0.1.1.1.1.1.0.1.1.0.1.0.1)
 
 region-fault-requires : tie.Need-region-fault-requires
 region-fault-requires c κs = search rules

@@ -2,7 +2,7 @@
 use Prim.Native.Nat.{◌<◌, ◌^◌}
 use native.Mathlib.Omega.{arith}
 use mathlib.Core.Path.{◌≡◌}
-use lib.ListN.{length, take, length_map}
+use lib.ListN.{length, take, length-map}
 use lib.Seq.{get_or-take}
 use borrow.Author.Rules.{rules}
 use borrow.Author.Tests.{eq-eqb, ne_eqb, lt-ltb, le-ltb}
@@ -16,7 +16,7 @@ use Rattle.frames.proofs.bases.get_region.Tie as tie
 
 -- the array of regions is whole
 rows : (s : tie.Start) → length s.args.g.regions.rows ≡ 32
-rows s = simp length_map at s.well-formed.0.1.1.1.1.1.0.1.1.0.1.0.1
+rows s = simp length-map at s.well-formed.0.1.1.1.1.1.0.1.1.0.1.0.1
 
 count : (s : tie.Start) → length (take s.args.g.regions.count s.args.g.regions.rows) ≡ s.args.g.regions.count
 count s = region_count s.args.g s.requires.held (rows s)

@@ -1,6 +1,6 @@
 -- `frames::bases::region_fault` meets its contract. Assumes nothing.
 use mathlib.Core.Path.{◌≡◌}
-use lib.ListN.{length, take, length_map}
+use lib.ListN.{length, take, length-map}
 use borrow.Author.Rules.{rules}
 use borrow.Author.Tests.{eq-eqb, ne_eqb, le-leb, lt-leb}
 use Rattle.frames.proofs.Faults.{word_count}
@@ -11,7 +11,7 @@ use Rattle.frames.proofs.bases.region_fault.Tie as tie
 
 -- the number of regions
 count : (s : tie.Start) → length (take s.args.g.regions.count s.args.g.regions.rows) ≡ s.args.g.regions.count
-count s = region_count s.args.g s.requires.held (simp length_map at s.well-formed.0.1.1.1.1.1.0.1.1.0.1.0.1)
+count s = region_count s.args.g s.requires.held (simp length-map at s.well-formed.0.1.1.1.1.1.0.1.1.0.1.0.1)
 
 returns : tie.Need-returns
 unfolding region_fault

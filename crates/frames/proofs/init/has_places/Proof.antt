@@ -1,6 +1,6 @@
 -- `frames::init::has_places` meets its contract. Assumes nothing.
 use mathlib.Core.Path.{◌≡◌}
-use lib.ListN.{length, take, length_map}
+use lib.ListN.{length, take, length-map}
 use borrow.Author.Rules.{rules}
 use borrow.Author.Tests.{eq-eqb, ne_eqb}
 use Rattle.frames.proofs.Rows.{vcpu_count}
@@ -10,7 +10,7 @@ use Rattle.frames.proofs.init.has_places.Tie as tie
 
 -- the number of VCPUs
 count : (s : tie.Start) → length (take s.args.g.vcpus.count s.args.g.vcpus.rows) ≡ s.args.g.vcpus.count
-count s = vcpu_count s.args.g s.requires.held (simp length_map at s.well-formed.0.1.1.1.1.1.1.0.1.1.0.1.0.1)
+count s = vcpu_count s.args.g s.requires.held (simp length-map at s.well-formed.0.1.1.1.1.1.1.0.1.1.0.1.0.1)
 
 mul-t6 : tie.Need-overflow-mul-t6
 mul-t6 c = search rules

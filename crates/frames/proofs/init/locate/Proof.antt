@@ -3,7 +3,7 @@
 use Prim.Native.Nat.{◌≤◌, ◌-◌}
 use native.Mathlib.Omega.{arith}
 use mathlib.Core.Path.{◌≡◌, sym, refl, ◌∙◌}
-use lib.ListN.{length, take, drop, length_map}
+use lib.ListN.{length, take, drop, length-map}
 use borrow.Author.Rules.{rules}
 use Rattle.frames.proofs.Known.{region_at}
 use Rattle.frames.proofs.Locate.{locate_end, locate_here, locate_on}
@@ -20,7 +20,7 @@ decreases-loop k t n left₀ i₀ left i = n - i
 
 -- the array of regions is whole
 rows : (s : tie.Start invariant-loop decreases-loop) → length s.args.g.regions.rows ≡ 32
-rows s = simp length_map at s.well-formed.0.1.1.1.1.1.0.1.1.0.1.0.1
+rows s = simp length-map at s.well-formed.0.1.1.1.1.1.0.1.1.0.1.0.1
 
 loop-holds : tie.Need-loop-init invariant-loop decreases-loop
 loop-holds c = (omega arith, refl)

@@ -2,7 +2,7 @@
 use Prim.Native.Nat.{◌<◌}
 use native.Mathlib.Omega.{arith}
 use mathlib.Core.Path.{◌≡◌}
-use lib.ListN.{length, take, length_map}
+use lib.ListN.{length, take, length-map}
 use borrow.Author.Rules.{rules}
 use borrow.Author.Tests.{eq-eqb, ne_eqb, lt-ltb, le-ltb}
 use Rattle.frames.proofs.Known.{single_at}
@@ -13,7 +13,7 @@ use Rattle.frames.proofs.init.redist_base.Tie as tie
 
 -- the number of VCPUs
 count : (s : tie.Start) → length (take s.args.g.vcpus.count s.args.g.vcpus.rows) ≡ s.args.g.vcpus.count
-count s = vcpu_count s.args.g s.requires.held (simp length_map at s.well-formed.0.1.1.1.1.1.1.0.1.1.0.1.0.1)
+count s = vcpu_count s.args.g s.requires.held (simp length-map at s.well-formed.0.1.1.1.1.1.1.0.1.1.0.1.0.1)
 
 told-requires : tie.Need-told-requires
 told-requires c κs = search rules

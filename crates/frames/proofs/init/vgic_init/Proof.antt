@@ -1,6 +1,6 @@
 -- `frames::init::vgic_init` meets its contract. Assumes nothing.
 use mathlib.Core.Path.{◌≡◌, ◌∙◌, sym, refl}
-use lib.ListN.{length, take, length_map}
+use lib.ListN.{length, take, length-map}
 use borrow.Author.Rules.{rules}
 use borrow.Author.Tests.{eq-eqb, ne_eqb, not-true, not-false}
 use Rattle.frames.proofs.Rows.{vcpu_count}
@@ -11,7 +11,7 @@ use Rattle.frames.proofs.init.vgic_init.Tie as tie
 
 -- the number of VCPUs
 count : (s : tie.Start) → length (take s.args.g.vcpus.count s.args.g.vcpus.rows) ≡ s.args.g.vcpus.count
-count s = vcpu_count s.args.g s.requires.held (simp length_map at s.well-formed.0.1.1.1.1.1.1.0.1.1.0.1.0.1)
+count s = vcpu_count s.args.g s.requires.held (simp length-map at s.well-formed.0.1.1.1.1.1.1.0.1.1.0.1.0.1)
 
 returns : tie.Need-returns
 unfolding vgic_init

@@ -1,6 +1,6 @@
 -- `frames::vcpus::add_vcpu` meets its contract. Assumes nothing.
 use mathlib.Core.Path.{◌≡◌, ◌∙◌, sym}
-use lib.ListN.{length, take, length_map}
+use lib.ListN.{length, take, length-map}
 use borrow.Author.Rules.{rules}
 use borrow.Author.Tests.{eq-eqb, ne_eqb, le-leb, lt-leb}
 use Rattle.frames.proofs.Rows.{vcpu_count}
@@ -11,7 +11,7 @@ use Rattle.frames.proofs.vcpus.add_vcpu.Tie as tie
 
 -- the number of VCPUs
 count : (s : tie.Start) → length (take s.args.g.vcpus.count s.args.g.vcpus.rows) ≡ s.args.g.vcpus.count
-count s = vcpu_count s.args.g s.requires.held (simp length_map at s.well-formed.0.1.1.1.1.1.1.0.1.1.0.1.0.1)
+count s = vcpu_count s.args.g s.requires.held (simp length-map at s.well-formed.0.1.1.1.1.1.1.0.1.1.0.1.0.1)
 
 refused-requires : tie.Need-refused-requires
 refused-requires c κs = search rules

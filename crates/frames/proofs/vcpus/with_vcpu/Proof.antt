@@ -1,6 +1,6 @@
 -- `frames::vcpus::with_vcpu` meets its contract. Assumes nothing.
 use native.Mathlib.Omega.{arith}
-use lib.ListN.{length_map}
+use lib.ListN.{length-map}
 use borrow.Author.Rules.{rules}
 use Rattle.frames.proofs.Rows.{pushed}
 use Rattle.frames.proofs.vcpus.with_vcpu.Statement.{statement}
@@ -16,7 +16,7 @@ add-next : tie.Need-overflow-add-next
 add-next c = search rules
 
 returns : tie.Need-returns
-returns c = (pushed _ _ 64 _ (simp length_map at c.well-formed.0.1.1.0.1.0.1) c.requires, omega (arith, c.requires))
+returns c = (pushed _ _ 64 _ (simp length-map at c.well-formed.0.1.1.0.1.0.1) c.requires, omega (arith, c.requires))
 
 pub with-vcpu-spec : {M : Type 1} → statement M
 with-vcpu-spec = tie.close (tie.spec mul-v element-set-from-v add-next returns)

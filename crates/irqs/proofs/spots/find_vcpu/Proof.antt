@@ -3,7 +3,7 @@ use native.Mathlib.Omega.{arith}
 use native.Mathlib.Nat.{not-suc-le-zero}
 use mathlib.Core.Path.{◌≡◌, sym}
 use mathlib.Core.Bool.{false}
-use lib.ListN.{length, get_or, length_map}
+use lib.ListN.{length, get_or, length-map}
 use borrow.Author.Rules.{rules}
 use borrow.Author.Tests.{eq-eqb, ne_eqb}
 use borrow.Author.Count.{below_more}
@@ -26,7 +26,7 @@ decreases-loop affinity v n i₀ i = n - i
 
 within : (s : tie.Start invariant-loop decreases-loop) → s.args.t1.count ≤ length s.args.t1.rows
 within s =
-    let l : length s.args.t1.rows ≡ 64 = simp length_map at s.well-formed.0.1.1.0.1.0.1 in
+    let l : length s.args.t1.rows ≡ 64 = simp length-map at s.well-formed.0.1.1.0.1.0.1 in
     omega (arith, s.requires)
 
 loop-holds : tie.Need-loop-init invariant-loop decreases-loop

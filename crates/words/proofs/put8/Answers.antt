@@ -1,0 +1,6 @@
+use Rattle.words.proofs.Laws.{put_one}
+use borrow.Author.Rules.{rules}
+use Rattle.words.proofs.put8.Goals as goal
+
+pub returns : goal.returns
+returns c = put_one _ _ _ c.requires
