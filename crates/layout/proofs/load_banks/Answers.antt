@@ -1,0 +1,23 @@
+use Prim.Native.Nat.{◌*◌, ◌-◌}
+use mathlib.Core.Path.{◌∙◌, sym, ap}
+use mathlib.Core.List.{List}
+use Prim.Native.Nat.{ℕ}
+use lib.ListN.{take, drop, length-replicate}
+use lib.Seq.{drop-drop}
+use borrow.Author.Rules.{rules}
+use Rattle.words.proofs.Rows.{Loading, load_start, load_turn, load_end}
+use Rattle.guest.specs.Machine.{no_bank}
+use Rattle.layout.specs.Layout.{bank_of}
+use Rattle.layout.proofs.load_banks.Goals as goal
+
+pub loop-i-init : goal.loop-i-init
+loop-i-init c = load_start _ _ _ _ _ no_bank c.requires.1 _ (length-replicate 31 c.fresh_bank-a.result)
+
+pub loop-i-preserved : goal.loop-i-preserved
+loop-i-preserved c =
+    load_turn _ _ _ _ _ _ c.requires.1 _ _ _ c.loop-i-test.true
+    (c.load_bank.ensures ∙ ap (λ (t : List ℕ). bank_of (take 12 t)) (sym (drop-drop (c.loop-i.i * 12) _ _))) c.loop-i.invariant
+
+pub returns : goal.returns
+returns c =
+    load_end _ _ _ _ _ _ c.requires.1 _ _ c.loop-i-test.false c.loop-i.invariant

@@ -1,0 +1,13 @@
+use native.Mathlib.Omega.{arith}
+use Rattle.words.proofs.Laws.{read_in}
+use Rattle.layout.specs.Layout.{region_of}
+use borrow.Author.Rules.{rules}
+use Rattle.layout.proofs.load_region.Goals as goal
+
+pub returns : goal.returns
+unfolding region_of
+returns c =
+    λ i. record {
+      base = read_in _ c.args.at 16 0 8 _ _ c.get64.ensures (omega arith) (omega arith) i;
+      count = read_in _ c.args.at 16 8 8 _ _ c.get64-2.ensures (omega arith) (omega arith) i;
+    }

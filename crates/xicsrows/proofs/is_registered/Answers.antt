@@ -1,0 +1,11 @@
+-- `xicsrows::is_registered` meets its contract. Assumes nothing.
+use Prim.Native.Nat.{ℕ}
+use mathlib.Core.Path.{ap₂}
+use lib.Dec.{ltb}
+use borrow.Author.Rules.{rules}
+use Rattle.xicsrows.specs.Registered.{registered}
+use Rattle.xicsrows.proofs.is_registered.Goals as goal
+
+pub returns : goal.returns
+unfolding registered
+returns c = ap₂ ltb c.find.ensures c.count.ensures
