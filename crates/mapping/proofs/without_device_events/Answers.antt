@@ -15,7 +15,7 @@ use Rattle.mapping.proofs.without_device_events.Goals as goal
 
 pub loop-i-init : goal.loop-i-init
 loop-i-init c =
-    (keep_start _ _ _ (omega (arith, c.requires, (record { devices = search rules; collections = search rules; events = search rules }).events)), refl)
+    (keep_start _ _ _ (omega (arith, c.requires, (full_of c.args.k (search rules) (search rules) (search rules)).events)), refl)
 
 pub loop-i-preserved : goal.loop-i-preserved
 loop-i-preserved c =
