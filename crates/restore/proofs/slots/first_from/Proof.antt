@@ -15,13 +15,16 @@ decreases-loop device t from n i₀ i = n - i
 loop-holds : tie.Need-loop-init invariant-loop decreases-loop
 loop-holds c = record { size = refl; end = search rules; same = refl }
 
-there-requires : tie.Need-there-requires invariant-loop decreases-loop
-there-requires c κs = search rules
+entry-at-requires : tie.Need-entry-at-requires invariant-loop decreases-loop
+entry-at-requires c κs = search rules
+
+valid-of-requires : tie.Need-valid-of-requires invariant-loop decreases-loop
+valid-of-requires c κs = search rules
 
 returns : tie.Need-returns invariant-loop decreases-loop
 returns c =
     let e = c.before.before in
-    seek_here _ _ _ _ _ e.before.loop.invariant e.loop-test.true _ c.before.there.ensures c.if1.true
+    seek_here _ _ _ _ _ e.before.before.loop.invariant e.before.loop-test.true _ _ e.entry_at.ensures c.before.valid-of.ensures c.if1.true
 
 add-i : tie.Need-overflow-add-i invariant-loop decreases-loop
 add-i c = search rules
@@ -32,7 +35,7 @@ loop-less c = search rules
 loop-again : tie.Need-loop-preserved invariant-loop decreases-loop
 loop-again c =
     let e = c.before.before in
-    seek_turn _ _ _ _ _ e.before.loop.invariant e.loop-test.true _ c.before.there.ensures c.if1.false
+    seek_turn _ _ _ _ _ e.before.before.loop.invariant e.before.loop-test.true _ _ e.entry_at.ensures c.before.valid-of.ensures c.if1.false
 
 returns-2 : tie.Need-returns-2 invariant-loop decreases-loop
 returns-2 c = seek_end _ _ _ _ _ c.before.loop.invariant c.loop-test.false
@@ -44,7 +47,8 @@ first-from-spec =
     invariant-loop
     decreases-loop
     loop-holds
-    there-requires
+    entry-at-requires
+    valid-of-requires
     returns
     add-i
     loop-less

@@ -31,24 +31,27 @@ add-j c = search rules
 is-exact-requires : tie.Need-is-exact-requires
 is-exact-requires c κs = search rules
 
-there-requires : tie.Need-there-requires
-there-requires c κs = search rules
+entry-at-requires-2 : tie.Need-entry-at-requires-2
+entry-at-requires-2 c κs = search rules
+
+valid-of-requires : tie.Need-valid-of-requires
+valid-of-requires c κs = search rules
 
 returns-3 : tie.Need-returns-3
 returns-3 c =
     let x = c.before.before in
-    let g = x.before.before in
+    let g = x.before.before.before in
     let f = g.before.before in
     leads_near _ _ _ _ _ f.before.entry_at.ensures f.next_of.ensures g.before.if1.false (omega (arith, g.if2.false))
-    (sym x.before.is-exact.ensures ∙ x.if3.true) _ c.before.there.ensures c.if4.true
+    (sym x.before.before.is-exact.ensures ∙ x.before.if3.true) _ _ x.entry-at2.ensures c.before.valid-of.ensures c.if4.true
 
 returns-4 : tie.Need-returns-4
 returns-4 c =
     let x = c.before.before in
-    let g = x.before.before in
+    let g = x.before.before.before in
     let f = g.before.before in
     leads_blank _ _ _ _ _ f.before.entry_at.ensures f.next_of.ensures g.before.if1.false (omega (arith, g.if2.false))
-    (sym x.before.is-exact.ensures ∙ x.if3.true) _ c.before.there.ensures c.if4.false
+    (sym x.before.before.is-exact.ensures ∙ x.before.if3.true) _ _ x.entry-at2.ensures c.before.valid-of.ensures c.if4.false
 
 first-from-requires : tie.Need-first-from-requires
 first-from-requires c κs = search rules
@@ -80,7 +83,8 @@ follow-spec =
     returns-2
     add-j
     is-exact-requires
-    there-requires
+    entry-at-requires-2
+    valid-of-requires
     returns-3
     returns-4
     first-from-requires
