@@ -1,7 +1,7 @@
 -- A path that ends well is a chain of links, and the other way round. Assumes nothing.
 use mathlib.Core.Path.{◌≡◌, refl, sym, ap, ◌∙◌}
 use mathlib.Core.List.{List, [], ◌∷◌}
-use Prim.Native.Nat.{ℕ, zero, suc, ◌+◌, ◌-◌, ◌≤◌, ◌<◌}
+use Prim.Native.Nat.{ℕ, zero, suc, ◌+◌, ◌≤◌, ◌<◌}
 use native.Mathlib.Omega.{arith}
 use Rattle.chains.specs.declared.Next.{Next}
 use Rattle.chains.specs.declared.Next.TheVariants.{Last, At, Bad}

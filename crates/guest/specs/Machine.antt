@@ -1,5 +1,5 @@
 -- The guest as a reader has it: tables are lists of the rows in use, with no arrays and no counts.
-use Rattle.std.specs.Prelude.{ℕ, ◌≤◌, ◌/◌, ◌-◌, ◌≡◌, Bool, List, [], length, take, replicate, eqb}
+use Rattle.std.specs.Prelude.{ℕ, ◌≤◌, ◌/◌, ◌-◌, ◌≡◌, Bool, List, [], take, replicate, eqb}
 use Rattle.lists.specs.Rows.{choose}
 use Rattle.guest.specs.declared.Memory.{Memory}
 use Rattle.guest.specs.declared.Control.{Control}

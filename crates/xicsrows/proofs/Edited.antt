@@ -1,13 +1,13 @@
 -- What is registered after a row was added or reworded: the row that was meant, and every other as before. Assumes nothing.
-use Prim.Native.Nat.{ℕ, zero, suc, ◌+◌, ◌≤◌, ◌<◌, suc-le-suc}
+use Prim.Native.Nat.{ℕ, zero, suc, ◌+◌, ◌≤◌, ◌<◌}
 use native.Mathlib.Nat.{not-suc-le-zero, le_of_suc-le-suc, zero-add, suc-add}
 use native.Mathlib.Omega.{arith}
 use mathlib.Core.Path.{◌≡◌, refl, sym, ap, ap₂, ◌∙◌, subst}
 use mathlib.Core.Bool.{Bool, true, false, ◌&&◌, not, and-eq-true_iff}
-use mathlib.Core.Logic.{◌⊎◌, ⊎_elim}
+use mathlib.Core.Logic.{⊎_elim}
 use mathlib.Core.List.{List, [], ◌∷◌, ◌++◌}
 use lib.ListN.{length, get_or, set, length-append, get_or-append}
-use lib.Seq.{get_or-append-add, get_or-append_seam, get_or-set_same, get_or-set_other}
+use lib.Seq.{get_or-append_seam, get_or-set_same, get_or-set_other}
 use borrow.Author.Tests.{not-true}
 use Rattle.lists.specs.Rows.{all}
 use Rattle.xicsrows.specs.XicsLayout.{Row}

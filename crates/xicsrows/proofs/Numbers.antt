@@ -1,18 +1,18 @@
 -- Which numbers are registered, with which word: of rows as they stand, with a row more, with another word in a row. Assumes nothing.
-use Prim.Native.Nat.{ℕ, zero, suc, ◌+◌, ◌≤◌, ◌<◌, suc-le-suc}
-use native.Mathlib.Nat.{not-suc-le-zero, le_of_suc-le-suc, zero-lt-suc}
+use Prim.Native.Nat.{ℕ, zero, suc, ◌≤◌, ◌<◌, suc-le-suc}
+use native.Mathlib.Nat.{not-suc-le-zero, le_of_suc-le-suc}
 use native.Mathlib.Omega.{arith}
 use mathlib.Core.Path.{◌≡◌, refl, sym, ap, ap₂, ◌∙◌, subst}
-use mathlib.Core.Bool.{Bool, true, false, ◌&&◌, not, and-eq-true_iff, false≢true}
+use mathlib.Core.Bool.{Bool, true, false, ◌&&◌, not}
 use mathlib.Core.Logic.{◌⊎◌, inl, inr, ⊎_elim}
-use mathlib.Core.List.{List, [], ◌∷◌, ◌++◌, map, nil≢cons, head-eq_of_cons-eq, tail-eq_of_cons-eq}
+use mathlib.Core.List.{List, [], ◌∷◌, map, nil≢cons, head-eq_of_cons-eq, tail-eq_of_cons-eq}
 use lib.ListN.{length, get_or, set, length-map}
 use lib.Dec.{ltb, eqb}
-use borrow.Author.Tests.{lt-ltb, ltb-true, eq-eqb, eqb-true, ne_eqb, le-ltb, ltb-false}
+use borrow.Author.Tests.{lt-ltb, ltb-true, eq-eqb, ne_eqb, le-ltb, ltb-false}
 use Rattle.areas.proofs.Tests.{lt_or_ge, and_false, clash}
 use Rattle.lists.specs.Rows.{find_ix, choose}
 use Rattle.xicsrows.specs.XicsLayout.{Row}
-use Rattle.xicsrows.specs.Registered.{no_row, has_number, index_of, registered, word_of, distinct}
+use Rattle.xicsrows.specs.Registered.{no_row, has_number, index_of, registered, distinct}
 
 -- two numbers are the same, or not
 pub same_or_not : (a b : ℕ) → (a ≡ b) ⊎ (a ≡ b → ⊥)

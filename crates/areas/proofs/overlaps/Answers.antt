@@ -2,7 +2,6 @@
 -- one. Assumes nothing.
 use native.Mathlib.Omega.{arith}
 use Rattle.areas.proofs.Differences.{first_reaches, first_short, second_reaches, second_short}
-use borrow.Author.Rules.{rules}
 use Rattle.areas.proofs.overlaps.Goals as goal
 
 pub returns-then-b-a : goal.returns-then-b-a

@@ -2,7 +2,7 @@
 use native.Mathlib.Omega.{arith}
 use native.Mathlib.Numerals.{add-one}
 use mathlib.Core.Path.{◌≡◌, refl}
-use lib.ListN.{length, length-map}
+use lib.ListN.{length}
 use lib.Seq.{take-suc-set}
 use borrow.Author.Rules.{rules}
 use Rattle.areas.proofs.with_area.Goals as goal

@@ -1,6 +1,5 @@
 use mathlib.Core.Path.{sym, ◌∙◌}
 use Rattle.banks.specs.Bank.{lined}
-use borrow.Author.Rules.{rules}
 use Rattle.banks.proofs.lined.Goals as goal
 
 pub returns-then-rises : goal.returns-then-rises

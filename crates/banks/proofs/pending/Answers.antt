@@ -1,7 +1,6 @@
 use mathlib.Core.Path.{sym, ◌∙◌}
 use borrow.Author.Tests.{eq-eqb, ne_eqb}
 use Rattle.banks.specs.Bank.{pending}
-use borrow.Author.Rules.{rules}
 use Rattle.banks.proofs.pending.Goals as goal
 
 pub returns-then-field_get-eq1 : goal.returns-then-field_get-eq1

@@ -1,6 +1,5 @@
 use mathlib.Core.Path.{sym, ◌∙◌}
 use borrow.Author.Tests.{eq-eqb, ne_eqb}
-use borrow.Author.Rules.{rules}
 use Rattle.banks.proofs.rises.Goals as goal
 
 pub returns-then-field_get-ne1 : goal.returns-then-field_get-ne1

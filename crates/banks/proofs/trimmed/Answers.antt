@@ -1,5 +1,4 @@
 -- `banks::trimmed` meets its contract: a field of each word. Assumes nothing.
-use borrow.Author.Rules.{rules}
 use Rattle.banks.specs.Bank.{trimmed}
 use Rattle.banks.proofs.trimmed.Goals as goal
 

@@ -1,6 +1,5 @@
 -- `entries::collection_entry` meets its contract. Assumes nothing.
 use Rattle.entries.specs.Collection.{collection_of}
-use borrow.Author.Rules.{rules}
 use Rattle.entries.proofs.collection_entry.Goals as goal
 
 pub returns : goal.returns

@@ -1,6 +1,5 @@
 -- `entries::collection_valid` meets its contract. Assumes nothing.
 use Rattle.entries.specs.Collection.{is_collection}
-use borrow.Author.Rules.{rules}
 use Rattle.entries.proofs.collection_valid.Goals as goal
 
 pub returns : goal.returns

@@ -1,6 +1,5 @@
 -- `entries::collection_word` meets its contract. Assumes nothing.
 use Rattle.entries.specs.Collection.{collection_word}
-use borrow.Author.Rules.{rules}
 use Rattle.entries.proofs.collection_word.Goals as goal
 
 pub returns : goal.returns

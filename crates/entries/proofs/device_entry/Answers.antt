@@ -5,7 +5,6 @@ use native.Mathlib.Omega.{arith}
 use native.Mathlib.Nat.{mod-eq_of_lt}
 use Rattle.fields.proofs.Laws.{get_lt}
 use Rattle.entries.specs.Device.{device_of}
-use borrow.Author.Rules.{rules}
 use Rattle.entries.proofs.device_entry.Goals as goal
 
 pub overflow_add-result : goal.overflow_add-result

@@ -1,6 +1,5 @@
 -- `entries::device_valid` meets its contract. Assumes nothing.
 use Rattle.entries.specs.Device.{is_device}
-use borrow.Author.Rules.{rules}
 use Rattle.entries.proofs.device_valid.Goals as goal
 
 pub returns : goal.returns

@@ -1,6 +1,5 @@
 -- `entries::device_word` meets its contract. Assumes nothing.
 use Rattle.entries.specs.Device.{device_word}
-use borrow.Author.Rules.{rules}
 use Rattle.entries.proofs.device_word.Goals as goal
 
 pub returns : goal.returns

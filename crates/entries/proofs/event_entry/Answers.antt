@@ -1,6 +1,5 @@
 -- `entries::event_entry` meets its contract. Assumes nothing.
 use Rattle.entries.specs.Event.{event_of}
-use borrow.Author.Rules.{rules}
 use Rattle.entries.proofs.event_entry.Goals as goal
 
 pub returns : goal.returns

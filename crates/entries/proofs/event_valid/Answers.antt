@@ -1,6 +1,5 @@
 -- `entries::event_valid` meets its contract. Assumes nothing.
 use Rattle.entries.specs.Event.{is_event}
-use borrow.Author.Rules.{rules}
 use Rattle.entries.proofs.event_valid.Goals as goal
 
 pub returns : goal.returns

@@ -1,6 +1,5 @@
 -- `entries::event_word` meets its contract. Assumes nothing.
 use Rattle.entries.specs.Event.{event_word}
-use borrow.Author.Rules.{rules}
 use Rattle.entries.proofs.event_word.Goals as goal
 
 pub returns : goal.returns

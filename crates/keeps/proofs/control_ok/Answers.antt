@@ -4,7 +4,6 @@ use mathlib.Core.Path.{◌∙◌}
 use Rattle.areas.proofs.Tests.{refuted, clash}
 use Rattle.rules.proofs.Parts.{control_parts}
 use Rattle.keeps.proofs.Verdicts.{control_set, control_last, passed, failed}
-use borrow.Author.Rules.{rules}
 use Rattle.keeps.proofs.control_ok.Goals as goal
 
 pub returns-then-m-gt1 : goal.returns-then-m-gt1

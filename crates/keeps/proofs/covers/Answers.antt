@@ -1,13 +1,7 @@
 -- `keeps::covers` meets its contract. The loop's invariant: what is left of the number fits into what is left of the regions where the
 -- whole fits. Assumes nothing.
-use Prim.Native.Nat.{◌≤◌, ◌-◌}
 use native.Mathlib.Omega.{arith}
-use mathlib.Core.Path.{◌≡◌, refl, sym, ◌∙◌}
-use lib.Dec.{leb}
-use lib.ListN.{drop}
-use borrow.Author.Rules.{rules}
-use Rattle.layout.specs.Layout.{decode}
-use Rattle.rules.specs.Standing.{total}
+use mathlib.Core.Path.{refl, sym, ◌∙◌}
 use Rattle.keeps.proofs.Rows.{covers_here, covers_later, covers_end}
 use Rattle.keeps.proofs.covers.Goals as goal
 

@@ -1,14 +1,11 @@
 -- `keeps::covers` meets its contract. The loop's invariant: what is left of the number fits into what is left of the regions where the
 -- whole fits. Assumes nothing.
 use Prim.Native.Nat.{◌≤◌, ◌-◌}
-use native.Mathlib.Omega.{arith}
-use mathlib.Core.Path.{◌≡◌, refl, sym, ◌∙◌}
+use mathlib.Core.Path.{◌≡◌}
 use lib.Dec.{leb}
 use lib.ListN.{drop}
-use borrow.Author.Rules.{rules}
 use Rattle.layout.specs.Layout.{decode}
 use Rattle.rules.specs.Standing.{total}
-use Rattle.keeps.proofs.Rows.{covers_here, covers_later, covers_end}
 use Rattle.keeps.proofs.covers.Given as goal
 
 abbrev pub invariant-loop-i : goal.invariant-loop-i

@@ -3,7 +3,6 @@ use native.Mathlib.Omega.{arith}
 use Rattle.areas.proofs.Tests.{refuted}
 use Rattle.rules.proofs.Parts.{frame_parts}
 use Rattle.keeps.proofs.Verdicts.{frame_set, frame_unset}
-use borrow.Author.Rules.{rules}
 use Rattle.keeps.proofs.frame_ok.Goals as goal
 
 pub returns-then-f-ne0 : goal.returns-then-f-ne0

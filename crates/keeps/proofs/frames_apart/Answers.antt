@@ -2,7 +2,6 @@
 use native.Mathlib.Omega.{arith}
 use mathlib.Core.Path.{sym, ◌∙◌}
 use Rattle.areas.proofs.Tests.{refuted, clash}
-use borrow.Author.Rules.{rules}
 use Rattle.keeps.proofs.Apart.{clear_parts, apart_last}
 use Rattle.keeps.proofs.frames_apart.Goals as goal
 

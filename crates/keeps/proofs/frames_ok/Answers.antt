@@ -1,7 +1,6 @@
 -- `keeps::frames_ok` meets its contract: a test that fails breaks a part of the rule, and the last one decides. Assumes nothing.
 use mathlib.Core.Path.{refl}
 use Rattle.areas.proofs.Tests.{refuted, clash}
-use borrow.Author.Rules.{rules}
 use Rattle.layout.proofs.InPlace.{regions_few}
 use Rattle.rules.proofs.Facts.{regions_small}
 use Rattle.keeps.proofs.Verdicts.{frames_hold, frames_last, passed, failed}

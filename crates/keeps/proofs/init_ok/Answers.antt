@@ -1,5 +1,4 @@
 -- `keeps::init_ok` meets its contract: a test that fails breaks a part of the rule, and the last one decides. Assumes nothing.
-use borrow.Author.Rules.{rules}
 use Rattle.keeps.proofs.Verdicts.{init_open, init_none, init_bare, init_single, init_last}
 use Rattle.keeps.proofs.init_ok.Goals as goal
 

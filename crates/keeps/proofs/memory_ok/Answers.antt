@@ -3,7 +3,6 @@ use native.Mathlib.Omega.{arith}
 use Rattle.areas.proofs.Tests.{refuted}
 use Rattle.rules.proofs.Parts.{memory_parts}
 use Rattle.keeps.proofs.Verdicts.{memory_last}
-use borrow.Author.Rules.{rules}
 use Rattle.keeps.proofs.memory_ok.Goals as goal
 
 pub returns-then-m-lt36 : goal.returns-then-m-lt36

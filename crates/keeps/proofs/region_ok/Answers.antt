@@ -3,7 +3,6 @@ use native.Mathlib.Omega.{arith}
 use Rattle.areas.proofs.Tests.{refuted}
 use Rattle.rules.proofs.Parts.{region_parts}
 use Rattle.keeps.proofs.Verdicts.{region_last}
-use borrow.Author.Rules.{rules}
 use Rattle.keeps.proofs.region_ok.Goals as goal
 
 pub returns-then-r-ne0 : goal.returns-then-r-ne0

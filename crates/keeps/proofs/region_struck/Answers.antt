@@ -1,14 +1,8 @@
 -- `keeps::region_struck` meets its contract. The loop's invariant: what is left of the regions is struck where the whole is.
 -- Assumes nothing.
-use Prim.Native.Nat.{◌≤◌, ◌-◌}
 use native.Mathlib.Omega.{arith}
-use mathlib.Core.Path.{◌≡◌, refl, sym, ◌∙◌}
-use mathlib.Core.List.{map}
-use lib.ListN.{drop}
-use borrow.Author.Rules.{rules}
-use Rattle.areas.specs.Area.{strikes}
+use mathlib.Core.Path.{refl, sym, ◌∙◌}
 use Rattle.layout.specs.Layout.{decode}
-use Rattle.rules.specs.Standing.{region_area}
 use Rattle.keeps.proofs.Rows.{count_small, struck_here, struck_later, struck_end}
 use Rattle.keeps.proofs.region_struck.Goals as goal
 

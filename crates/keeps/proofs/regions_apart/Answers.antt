@@ -1,14 +1,8 @@
 -- `keeps::regions_apart` meets its contract. The loop's invariant: what is left of the regions stands apart where the whole does.
 -- Assumes nothing.
-use Prim.Native.Nat.{◌≤◌, ◌-◌}
 use native.Mathlib.Omega.{arith}
-use mathlib.Core.Path.{◌≡◌, refl, sym, ◌∙◌}
-use mathlib.Core.List.{map}
-use lib.ListN.{drop}
-use borrow.Author.Rules.{rules}
-use Rattle.areas.specs.Area.{apart}
+use mathlib.Core.Path.{refl, sym, ◌∙◌}
 use Rattle.layout.specs.Layout.{decode}
-use Rattle.rules.specs.Standing.{region_area}
 use Rattle.keeps.proofs.Rows.{count_small, apart_here, apart_later, apart_end}
 use Rattle.keeps.proofs.regions_apart.Goals as goal
 

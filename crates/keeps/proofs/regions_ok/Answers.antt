@@ -1,14 +1,9 @@
 -- `keeps::regions_ok` meets its contract. The loop's invariant: every region passed is right. Assumes nothing.
-use Prim.Native.Nat.{ℕ, ◌≤◌, ◌<◌, ◌-◌}
 use native.Mathlib.Omega.{arith}
 use native.Mathlib.Nat.{not-suc-le-zero}
-use mathlib.Core.Path.{◌≡◌, sym}
-use mathlib.Core.Bool.{true}
-use lib.ListN.{get_or}
+use mathlib.Core.Path.{sym}
 use borrow.Author.Count.{below_more}
-use borrow.Author.Rules.{rules}
 use Rattle.guest.specs.Machine.{no_region}
-use Rattle.layout.specs.Layout.{decode}
 use Rattle.rules.specs.Rules.{region_ok}
 use Rattle.keeps.proofs.Verdicts.{passed, failed}
 use Rattle.keeps.proofs.Rows.{rows_fail, rows_hold}

@@ -1,7 +1,6 @@
 -- `keeps::run_size` meets its contract. Assumes nothing.
 use native.Mathlib.Omega.{arith}
 use mathlib.Core.Path.{sym, ◌∙◌}
-use borrow.Author.Rules.{rules}
 use Rattle.layout.specs.Layout.{decode}
 use Rattle.layout.proofs.InPlace.{vcpus_few}
 use Rattle.rules.proofs.Built.{run_whole, run_first}

@@ -3,7 +3,6 @@ use native.Mathlib.Omega.{arith}
 use Rattle.areas.proofs.Tests.{refuted}
 use Rattle.rules.proofs.Parts.{table_parts}
 use Rattle.keeps.proofs.Verdicts.{table_set, table_unset}
-use borrow.Author.Rules.{rules}
 use Rattle.keeps.proofs.table_ok.Goals as goal
 
 pub returns-then-t-ne0 : goal.returns-then-t-ne0

@@ -1,7 +1,6 @@
 -- `keeps::tables_ok` meets its contract: a test that fails breaks a part of the rule, and the last one decides. Assumes nothing.
 use native.Mathlib.Omega.{arith}
 use Rattle.areas.proofs.Tests.{refuted, clash}
-use borrow.Author.Rules.{rules}
 use Rattle.rules.proofs.Parts.{table_parts}
 use Rattle.keeps.proofs.Verdicts.{tables_hold, tables_last, tables_read, passed, failed}
 use Rattle.keeps.proofs.tables_ok.Goals as goal

@@ -1,12 +1,7 @@
 -- `keeps::taken_from` meets its contract. The loop's invariant: what is left of the VCPUs has the affinity where the whole has.
 -- Assumes nothing.
-use Prim.Native.Nat.{◌≤◌, ◌-◌}
 use native.Mathlib.Omega.{arith}
-use mathlib.Core.Path.{◌≡◌, refl, sym, ◌∙◌}
-use lib.ListN.{drop}
-use borrow.Author.Rules.{rules}
-use Rattle.layout.specs.Layout.{decode}
-use Rattle.rules.specs.Rules.{taken}
+use mathlib.Core.Path.{refl, sym, ◌∙◌}
 use Rattle.keeps.proofs.Rows.{taken_here, taken_later, taken_end}
 use Rattle.keeps.proofs.taken_from.Goals as goal
 

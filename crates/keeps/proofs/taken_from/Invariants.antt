@@ -1,13 +1,10 @@
 -- `keeps::taken_from` meets its contract. The loop's invariant: what is left of the VCPUs has the affinity where the whole has.
 -- Assumes nothing.
 use Prim.Native.Nat.{◌≤◌, ◌-◌}
-use native.Mathlib.Omega.{arith}
-use mathlib.Core.Path.{◌≡◌, refl, sym, ◌∙◌}
+use mathlib.Core.Path.{◌≡◌}
 use lib.ListN.{drop}
-use borrow.Author.Rules.{rules}
 use Rattle.layout.specs.Layout.{decode}
 use Rattle.rules.specs.Rules.{taken}
-use Rattle.keeps.proofs.Rows.{taken_here, taken_later, taken_end}
 use Rattle.keeps.proofs.taken_from.Given as goal
 
 abbrev pub invariant-loop-i : goal.invariant-loop-i

@@ -3,7 +3,6 @@ use mathlib.Core.Path.{sym, ◌∙◌}
 use Rattle.areas.proofs.Tests.{refuted}
 use Rattle.rules.proofs.Parts.{vcpu_parts}
 use Rattle.keeps.proofs.Verdicts.{vcpu_last}
-use borrow.Author.Rules.{rules}
 use Rattle.keeps.proofs.vcpu_ok.Goals as goal
 
 pub returns-then-field_get-ne65535 : goal.returns-then-field_get-ne65535

@@ -1,6 +1,5 @@
 -- `keeps::vcpus_ok` meets its contract: a test that fails breaks a part of the rule, and the last one decides. Assumes nothing.
 use Rattle.areas.proofs.Tests.{refuted, clash}
-use borrow.Author.Rules.{rules}
 use Rattle.layout.proofs.InPlace.{vcpus_few}
 use Rattle.rules.proofs.Parts.{vcpus_parts}
 use Rattle.keeps.proofs.Verdicts.{vcpus_last, passed, failed}

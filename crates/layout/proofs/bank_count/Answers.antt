@@ -1,6 +1,5 @@
 -- `layout::bank_count` meets its contract. Assumes nothing.
 use mathlib.Core.Path.{ap, ◌∙◌}
-use borrow.Author.Rules.{rules}
 use Rattle.guest.specs.Machine.{shared_count}
 use Rattle.layout.proofs.InPlace.{bank_count}
 use Rattle.layout.proofs.bank_count.Goals as goal

@@ -4,7 +4,6 @@ use Prim.Native.Nat.{ℕ}
 use borrow.Author.Tests.{lt-leb, le-leb}
 use Rattle.guest.specs.Machine.{shared_count}
 use Rattle.layout.specs.Layout.{counts_ok}
-use borrow.Author.Rules.{rules}
 use Rattle.layout.proofs.counts_ok.Goals as goal
 
 pub returns-then-get64-gt32 : goal.returns-then-get64-gt32

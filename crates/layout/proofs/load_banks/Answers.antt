@@ -1,11 +1,10 @@
-use Prim.Native.Nat.{◌*◌, ◌-◌}
+use Prim.Native.Nat.{◌*◌}
 use mathlib.Core.Path.{◌∙◌, sym, ap}
 use mathlib.Core.List.{List}
 use Prim.Native.Nat.{ℕ}
-use lib.ListN.{take, drop, length-replicate}
+use lib.ListN.{take, length-replicate}
 use lib.Seq.{drop-drop}
-use borrow.Author.Rules.{rules}
-use Rattle.words.proofs.Rows.{Loading, load_start, load_turn, load_end}
+use Rattle.words.proofs.Rows.{load_start, load_turn, load_end}
 use Rattle.guest.specs.Machine.{no_bank}
 use Rattle.layout.specs.Layout.{bank_of}
 use Rattle.layout.proofs.load_banks.Goals as goal

@@ -1,11 +1,6 @@
-use Prim.Native.Nat.{◌*◌, ◌-◌}
-use mathlib.Core.Path.{◌∙◌, sym, ap}
-use mathlib.Core.List.{List}
-use Prim.Native.Nat.{ℕ}
-use lib.ListN.{take, drop, length-replicate}
-use lib.Seq.{drop-drop}
-use borrow.Author.Rules.{rules}
-use Rattle.words.proofs.Rows.{Loading, load_start, load_turn, load_end}
+use Prim.Native.Nat.{◌-◌}
+use lib.ListN.{drop}
+use Rattle.words.proofs.Rows.{Loading}
 use Rattle.guest.specs.Machine.{no_bank}
 use Rattle.layout.specs.Layout.{bank_of}
 use Rattle.layout.proofs.load_banks.Given as goal

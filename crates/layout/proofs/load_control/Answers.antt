@@ -1,5 +1,4 @@
 use Rattle.layout.specs.Layout.{control_of}
-use borrow.Author.Rules.{rules}
 use Rattle.layout.proofs.load_control.Goals as goal
 
 pub returns : goal.returns

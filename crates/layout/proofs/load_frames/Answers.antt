@@ -1,5 +1,4 @@
 use Rattle.layout.specs.Layout.{frames_of}
-use borrow.Author.Rules.{rules}
 use Rattle.layout.proofs.load_frames.Goals as goal
 
 pub returns : goal.returns

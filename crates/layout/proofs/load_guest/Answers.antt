@@ -1,7 +1,6 @@
 use mathlib.Core.Path.{◌∙◌, ap}
 use Rattle.guest.specs.Machine.{shared_count}
 use Rattle.layout.proofs.Counts.{counts, loaded, irqs_of}
-use borrow.Author.Rules.{rules}
 use Rattle.layout.proofs.load_guest.Goals as goal
 
 pub load_regions-requires : goal.load_regions-requires

@@ -1,7 +1,6 @@
 use native.Mathlib.Omega.{arith}
 use Rattle.words.proofs.Laws.{read_in}
 use Rattle.layout.specs.Layout.{region_of}
-use borrow.Author.Rules.{rules}
 use Rattle.layout.proofs.load_region.Goals as goal
 
 pub returns : goal.returns

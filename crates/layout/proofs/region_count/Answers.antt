@@ -1,6 +1,5 @@
 -- `layout::region_count` meets its contract. Assumes nothing.
 use mathlib.Core.Path.{◌∙◌}
-use borrow.Author.Rules.{rules}
 use Rattle.layout.proofs.InPlace.{region_count}
 use Rattle.layout.proofs.region_count.Goals as goal
 

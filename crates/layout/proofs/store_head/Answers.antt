@@ -2,7 +2,6 @@ use native.Mathlib.Omega.{arith}
 use mathlib.Core.List.{[], ◌∷◌, ◌++◌}
 use Rattle.words.proofs.Rows.{run_more}
 use Rattle.layout.specs.Layout.{memory_words, control_words, frames_words, tables_words}
-use borrow.Author.Rules.{rules}
 use Rattle.layout.proofs.store_head.Goals as goal
 
 pub returns : goal.returns

@@ -1,5 +1,4 @@
 use Rattle.layout.specs.Layout.{region_bytes}
-use borrow.Author.Rules.{rules}
 use Rattle.layout.proofs.store_region.Goals as goal
 
 pub returns : goal.returns

@@ -1,8 +1,5 @@
 use Prim.Native.Nat.{◌-◌}
-use native.Mathlib.Omega.{arith}
-use borrow.Author.Rules.{rules}
-use Rattle.words.proofs.Rows.{Storing, store_start, store_turn, store_end}
-use Rattle.guest.specs.Machine.{no_region}
+use Rattle.words.proofs.Rows.{Storing}
 use Rattle.layout.specs.Layout.{region_bytes}
 use Rattle.layout.proofs.Sizes.{region_sized}
 use Rattle.layout.proofs.store_regions.Given as goal

@@ -1,7 +1,6 @@
 use native.Mathlib.Omega.{arith}
 use mathlib.Core.List.{[], ◌∷◌}
 use Rattle.words.proofs.Rows.{run_more}
-use borrow.Author.Rules.{rules}
 use Rattle.layout.proofs.store_tables.Goals as goal
 
 pub returns : goal.returns

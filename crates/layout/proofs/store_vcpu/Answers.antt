@@ -2,7 +2,6 @@ use native.Mathlib.Omega.{arith}
 use mathlib.Core.List.{[], ◌∷◌}
 use Rattle.words.proofs.Rows.{run_one, run_more}
 use Rattle.layout.specs.Layout.{bank_bytes, bank_words, vcpu_bytes}
-use borrow.Author.Rules.{rules}
 use Rattle.layout.proofs.store_vcpu.Goals as goal
 
 pub returns : goal.returns

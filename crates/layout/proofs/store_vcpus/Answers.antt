@@ -1,9 +1,8 @@
-use Prim.Native.Nat.{◌-◌}
 use mathlib.Core.Path.{◌≡◌}
 use lib.ListN.{length}
 use native.Mathlib.Omega.{arith}
 use borrow.Author.Rules.{rules}
-use Rattle.words.proofs.Rows.{Storing, store_start, store_turn, store_end}
+use Rattle.words.proofs.Rows.{store_start, store_turn, store_end}
 use Rattle.guest.specs.Machine.{no_bank}
 use Rattle.layout.specs.Layout.{vcpu_bytes}
 use Rattle.layout.proofs.Sizes.{vcpu_sized}

@@ -1,8 +1,5 @@
 use Prim.Native.Nat.{◌-◌}
-use native.Mathlib.Omega.{arith}
-use borrow.Author.Rules.{rules}
-use Rattle.words.proofs.Rows.{Storing, store_start, store_turn, store_end}
-use Rattle.guest.specs.Machine.{no_bank}
+use Rattle.words.proofs.Rows.{Storing}
 use Rattle.layout.specs.Layout.{vcpu_bytes}
 use Rattle.layout.proofs.Sizes.{vcpu_sized}
 use Rattle.layout.proofs.store_vcpus.Given as goal

@@ -1,6 +1,5 @@
 -- `layout::vcpu_count` meets its contract. Assumes nothing.
 use mathlib.Core.Path.{◌∙◌}
-use borrow.Author.Rules.{rules}
 use Rattle.layout.proofs.InPlace.{vcpu_count}
 use Rattle.layout.proofs.vcpu_count.Goals as goal
 

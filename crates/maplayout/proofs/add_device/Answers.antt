@@ -1,6 +1,5 @@
 -- `maplayout::add_device` meets its contract. Assumes nothing.
 use Rattle.maplayout.proofs.Added.{device_puts}
-use borrow.Author.Rules.{rules}
 use Rattle.maplayout.proofs.add_device.Goals as goal
 
 pub returns : goal.returns

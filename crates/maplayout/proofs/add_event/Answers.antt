@@ -1,6 +1,5 @@
 -- `maplayout::add_event` meets its contract. Assumes nothing.
 use Rattle.maplayout.proofs.Added.{event_puts}
-use borrow.Author.Rules.{rules}
 use Rattle.maplayout.proofs.add_event.Goals as goal
 
 pub returns : goal.returns

@@ -1,6 +1,5 @@
 -- `maplayout::device_count` meets its contract. Assumes nothing.
 use mathlib.Core.Path.{◌∙◌}
-use borrow.Author.Rules.{rules}
 use Rattle.maplayout.proofs.InPlace.{device_count}
 use Rattle.maplayout.proofs.device_count.Goals as goal
 

@@ -1,5 +1,4 @@
 -- `maplayout::insert_collection` meets its contract. Assumes nothing.
-use borrow.Author.Rules.{rules}
 use Rattle.maplayout.proofs.Added.{collection_puts}
 use Rattle.maplayout.proofs.insert_collection.Goals as goal
 

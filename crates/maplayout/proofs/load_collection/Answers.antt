@@ -1,7 +1,6 @@
 use native.Mathlib.Omega.{arith}
 use Rattle.words.proofs.Laws.{read_in}
 use Rattle.maplayout.specs.MapLayout.{collection_of}
-use borrow.Author.Rules.{rules}
 use Rattle.maplayout.proofs.load_collection.Goals as goal
 
 pub returns : goal.returns

@@ -1,7 +1,6 @@
 use native.Mathlib.Omega.{arith}
 use Rattle.words.proofs.Laws.{read_in}
 use Rattle.maplayout.specs.MapLayout.{device_of}
-use borrow.Author.Rules.{rules}
 use Rattle.maplayout.proofs.load_device.Goals as goal
 
 pub returns : goal.returns

@@ -1,12 +1,8 @@
-use Prim.Native.Nat.{ℕ, ◌*◌, ◌-◌}
-use mathlib.Core.Path.{◌∙◌, sym, ap}
-use mathlib.Core.List.{List}
-use lib.ListN.{take, drop, length-replicate}
-use lib.Seq.{drop-drop}
-use Rattle.words.proofs.Rows.{Loading, load_start, load_turn, load_end}
+use Prim.Native.Nat.{◌-◌}
+use lib.ListN.{drop}
+use Rattle.words.proofs.Rows.{Loading}
 use Rattle.mapping.specs.Mapped.{no_device}
 use Rattle.maplayout.specs.MapLayout.{device_of}
-use borrow.Author.Rules.{rules}
 use Rattle.maplayout.proofs.load_devices.Given as goal
 
 abbrev pub invariant-loop-i : goal.invariant-loop-i

@@ -1,5 +1,4 @@
 use Rattle.maplayout.proofs.Counts.{counts, loaded}
-use borrow.Author.Rules.{rules}
 use Rattle.maplayout.proofs.load_mapping.Goals as goal
 
 pub load_devices-requires : goal.load_devices-requires

@@ -3,7 +3,6 @@ use mathlib.Core.Path.{ap}
 use lib.Dec.{leb}
 use borrow.Author.Tests.{lt-leb, le-leb}
 use Rattle.maplayout.specs.MapLayout.{map_counts_ok}
-use borrow.Author.Rules.{rules}
 use Rattle.maplayout.proofs.map_counts_ok.Goals as goal
 
 pub returns-then-get64-gt32 : goal.returns-then-get64-gt32

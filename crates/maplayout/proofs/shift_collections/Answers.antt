@@ -1,8 +1,6 @@
 -- `maplayout::shift_collections` meets its contract. Assumes nothing.
-use Prim.Native.Nat.{◌-◌}
 use native.Mathlib.Omega.{arith}
-use borrow.Author.Rules.{rules}
-use Rattle.maplayout.proofs.Shift.{Shifting, same, shift_start, shift_turn, shift_end}
+use Rattle.maplayout.proofs.Shift.{same, shift_start, shift_turn, shift_end}
 use Rattle.maplayout.proofs.shift_collections.Goals as goal
 
 pub loop-j-init : goal.loop-j-init

@@ -1,10 +1,8 @@
-use Prim.Native.Nat.{◌-◌}
 use native.Mathlib.Omega.{arith}
-use Rattle.words.proofs.Rows.{Storing, store_start, store_turn, store_end}
+use Rattle.words.proofs.Rows.{store_start, store_turn, store_end}
 use Rattle.mapping.specs.Mapped.{no_collection}
 use Rattle.maplayout.specs.MapLayout.{collection_bytes}
 use Rattle.maplayout.proofs.Sizes.{collection_sized}
-use borrow.Author.Rules.{rules}
 use Rattle.maplayout.proofs.store_collections.Goals as goal
 
 pub loop-i-init : goal.loop-i-init

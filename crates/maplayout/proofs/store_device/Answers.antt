@@ -1,5 +1,4 @@
 use Rattle.maplayout.specs.MapLayout.{device_bytes}
-use borrow.Author.Rules.{rules}
 use Rattle.maplayout.proofs.store_device.Goals as goal
 
 pub returns : goal.returns

@@ -1,10 +1,8 @@
-use Prim.Native.Nat.{◌-◌}
 use native.Mathlib.Omega.{arith}
-use Rattle.words.proofs.Rows.{Storing, store_start, store_turn, store_end}
+use Rattle.words.proofs.Rows.{store_start, store_turn, store_end}
 use Rattle.mapping.specs.Mapped.{no_device}
 use Rattle.maplayout.specs.MapLayout.{device_bytes}
 use Rattle.maplayout.proofs.Sizes.{device_sized}
-use borrow.Author.Rules.{rules}
 use Rattle.maplayout.proofs.store_devices.Goals as goal
 
 pub loop-i-init : goal.loop-i-init

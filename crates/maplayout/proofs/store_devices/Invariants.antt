@@ -1,10 +1,7 @@
 use Prim.Native.Nat.{◌-◌}
-use native.Mathlib.Omega.{arith}
-use Rattle.words.proofs.Rows.{Storing, store_start, store_turn, store_end}
-use Rattle.mapping.specs.Mapped.{no_device}
+use Rattle.words.proofs.Rows.{Storing}
 use Rattle.maplayout.specs.MapLayout.{device_bytes}
 use Rattle.maplayout.proofs.Sizes.{device_sized}
-use borrow.Author.Rules.{rules}
 use Rattle.maplayout.proofs.store_devices.Given as goal
 
 abbrev pub invariant-loop-i : goal.invariant-loop-i

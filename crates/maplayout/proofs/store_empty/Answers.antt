@@ -1,6 +1,5 @@
 -- `maplayout::store_empty` meets its contract. Assumes nothing.
 use Rattle.maplayout.proofs.Added.{stored_empty}
-use borrow.Author.Rules.{rules}
 use Rattle.maplayout.proofs.store_empty.Goals as goal
 
 pub returns : goal.returns

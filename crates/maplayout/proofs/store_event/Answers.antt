@@ -2,7 +2,6 @@ use native.Mathlib.Omega.{arith}
 use mathlib.Core.List.{[], ◌∷◌}
 use Rattle.words.proofs.Rows.{run_one, run_more}
 use Rattle.maplayout.specs.MapLayout.{event_bytes}
-use borrow.Author.Rules.{rules}
 use Rattle.maplayout.proofs.store_event.Goals as goal
 
 pub returns : goal.returns

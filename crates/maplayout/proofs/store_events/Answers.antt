@@ -1,10 +1,8 @@
-use Prim.Native.Nat.{◌-◌}
 use native.Mathlib.Omega.{arith}
-use Rattle.words.proofs.Rows.{Storing, store_start, store_turn, store_end}
+use Rattle.words.proofs.Rows.{store_start, store_turn, store_end}
 use Rattle.mapping.specs.Mapped.{no_event}
 use Rattle.maplayout.specs.MapLayout.{event_bytes}
 use Rattle.maplayout.proofs.Sizes.{event_sized}
-use borrow.Author.Rules.{rules}
 use Rattle.maplayout.proofs.store_events.Goals as goal
 
 pub loop-i-init : goal.loop-i-init

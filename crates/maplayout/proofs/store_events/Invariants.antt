@@ -1,10 +1,7 @@
 use Prim.Native.Nat.{◌-◌}
-use native.Mathlib.Omega.{arith}
-use Rattle.words.proofs.Rows.{Storing, store_start, store_turn, store_end}
-use Rattle.mapping.specs.Mapped.{no_event}
+use Rattle.words.proofs.Rows.{Storing}
 use Rattle.maplayout.specs.MapLayout.{event_bytes}
 use Rattle.maplayout.proofs.Sizes.{event_sized}
-use borrow.Author.Rules.{rules}
 use Rattle.maplayout.proofs.store_events.Given as goal
 
 abbrev pub invariant-loop-i : goal.invariant-loop-i

@@ -1,7 +1,6 @@
 use native.Mathlib.Omega.{arith}
 use mathlib.Core.List.{[], ◌∷◌}
 use Rattle.words.proofs.Rows.{run_one, run_more}
-use borrow.Author.Rules.{rules}
 use Rattle.maplayout.proofs.store_three.Goals as goal
 
 pub returns : goal.returns

@@ -1,12 +1,9 @@
 -- `rules::covers` meets its contract. The loop's invariant: what is left of the number fits into what is left of the regions where the
 -- whole fits. Assumes nothing.
-use Prim.Native.Nat.{◌≤◌, ◌-◌}
 use native.Mathlib.Omega.{arith}
 use mathlib.Core.Path.{◌≡◌, refl, sym, ◌∙◌}
-use lib.Dec.{leb}
-use lib.ListN.{length, take, drop, length-map}
+use lib.ListN.{length}
 use borrow.Author.Rules.{rules}
-use Rattle.rules.specs.Standing.{total}
 use Rattle.rules.proofs.Rows.{covers_here, covers_later, covers_end}
 use Rattle.rules.proofs.covers.Goals as goal
 

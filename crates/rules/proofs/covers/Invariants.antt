@@ -1,13 +1,10 @@
 -- `rules::covers` meets its contract. The loop's invariant: what is left of the number fits into what is left of the regions where the
 -- whole fits. Assumes nothing.
 use Prim.Native.Nat.{◌≤◌, ◌-◌}
-use native.Mathlib.Omega.{arith}
-use mathlib.Core.Path.{◌≡◌, refl, sym, ◌∙◌}
+use mathlib.Core.Path.{◌≡◌}
 use lib.Dec.{leb}
-use lib.ListN.{length, take, drop, length-map}
-use borrow.Author.Rules.{rules}
+use lib.ListN.{take, drop}
 use Rattle.rules.specs.Standing.{total}
-use Rattle.rules.proofs.Rows.{covers_here, covers_later, covers_end}
 use Rattle.rules.proofs.covers.Given as goal
 
 abbrev pub invariant-loop-i : goal.invariant-loop-i

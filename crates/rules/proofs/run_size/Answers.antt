@@ -2,7 +2,7 @@
 use Rattle.guest.specs.Machine.{view}
 use native.Mathlib.Omega.{arith}
 use mathlib.Core.Path.{◌≡◌}
-use lib.ListN.{length, length-map}
+use lib.ListN.{length}
 use lib.Seq.{length-take-le}
 use Rattle.rules.proofs.Built.{run_whole, run_first}
 use borrow.Author.Rules.{rules}

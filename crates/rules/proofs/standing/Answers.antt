@@ -2,7 +2,6 @@
 use native.Mathlib.Omega.{arith}
 use Rattle.guest.specs.Machine.{view}
 use Rattle.rules.proofs.Built.{standing_built}
-use borrow.Author.Rules.{rules}
 use Rattle.rules.proofs.standing.Goals as goal
 
 pub returns : goal.returns

@@ -1,13 +1,9 @@
 -- `rules::taken_from` meets its contract. The loop's invariant: what is left of the VCPUs has the affinity where the whole has. Assumes
 -- nothing.
 use Prim.Native.Nat.{◌≤◌, ◌-◌}
-use native.Mathlib.Omega.{arith}
-use mathlib.Core.Path.{◌≡◌, refl, sym, ◌∙◌}
-use lib.ListN.{length, take, drop, length-map}
-use borrow.Author.Tests.{ne_eqb}
-use borrow.Author.Rules.{rules}
+use mathlib.Core.Path.{◌≡◌}
+use lib.ListN.{take, drop}
 use Rattle.rules.specs.Rules.{taken}
-use Rattle.rules.proofs.Rows.{taken_here, taken_later, taken_end}
 use Rattle.rules.proofs.taken_from.Given as goal
 
 abbrev pub invariant-loop-i : goal.invariant-loop-i

@@ -3,7 +3,6 @@ use Rattle.areas.specs.Area.{areas}
 use native.Mathlib.Omega.{arith}
 use mathlib.Core.Path.{◌∙◌}
 use Rattle.rules.proofs.Built.{frame_behind, frame_nowhere}
-use borrow.Author.Rules.{rules}
 use Rattle.rules.proofs.with_frame.Goals as goal
 
 pub returns-then-f-eq1 : goal.returns-then-f-eq1

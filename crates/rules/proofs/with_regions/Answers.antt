@@ -1,10 +1,9 @@
 -- `rules::with_regions` meets its contract. The loop's invariant: the regions passed stand behind what stood. Assumes nothing.
-use Prim.Native.Nat.{◌+◌, ◌≤◌, ◌-◌}
 use native.Mathlib.Omega.{arith}
 use mathlib.Core.Path.{◌≡◌, sym, ◌∙◌}
-use lib.ListN.{length, take, length-map}
+use lib.ListN.{length}
 use borrow.Author.Rules.{rules}
-use mathlib.Core.List.{◌++◌, map, append-nil}
+use mathlib.Core.List.{append-nil}
 use Rattle.areas.specs.Area.{areas}
 use Rattle.rules.specs.Standing.{region_area}
 use Rattle.rules.proofs.Rows.{count_small, map_more, no_region}

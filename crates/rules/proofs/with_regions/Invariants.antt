@@ -1,13 +1,10 @@
 -- `rules::with_regions` meets its contract. The loop's invariant: the regions passed stand behind what stood. Assumes nothing.
 use Prim.Native.Nat.{◌+◌, ◌≤◌, ◌-◌}
-use native.Mathlib.Omega.{arith}
-use mathlib.Core.Path.{◌≡◌, sym, ◌∙◌}
-use lib.ListN.{length, take, length-map}
-use borrow.Author.Rules.{rules}
-use mathlib.Core.List.{◌++◌, map, append-nil}
+use mathlib.Core.Path.{◌≡◌}
+use lib.ListN.{take}
+use mathlib.Core.List.{◌++◌, map}
 use Rattle.areas.specs.Area.{areas}
 use Rattle.rules.specs.Standing.{region_area}
-use Rattle.rules.proofs.Rows.{count_small, map_more, no_region}
 use Rattle.rules.proofs.with_regions.Given as goal
 
 abbrev pub invariant-loop-i : goal.invariant-loop-i

@@ -1,6 +1,5 @@
 use native.Mathlib.Omega.{arith}
 use Rattle.words.proofs.Laws.{read_two}
-use borrow.Author.Rules.{rules}
 use Rattle.words.proofs.get32.Goals as goal
 
 pub returns : goal.returns

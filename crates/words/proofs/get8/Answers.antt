@@ -1,6 +1,5 @@
 use native.Mathlib.Omega.{arith}
 use Rattle.words.proofs.Laws.{read_one}
-use borrow.Author.Rules.{rules}
 use Rattle.words.proofs.get8.Goals as goal
 
 pub overflow_cast-result : goal.overflow_cast-result

@@ -1,6 +1,5 @@
 use native.Mathlib.Omega.{arith}
 use Rattle.words.proofs.Laws.{put_two}
-use borrow.Author.Rules.{rules}
 use Rattle.words.proofs.put16.Goals as goal
 
 pub returns : goal.returns

@@ -1,5 +1,4 @@
 use Rattle.words.proofs.Laws.{put_one}
-use borrow.Author.Rules.{rules}
 use Rattle.words.proofs.put8.Goals as goal
 
 pub returns : goal.returns

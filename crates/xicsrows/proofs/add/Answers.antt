@@ -1,5 +1,4 @@
 -- `xicsrows::add` meets its contract. Assumes nothing.
-use borrow.Author.Rules.{rules}
 use Rattle.xicsrows.proofs.InPlace.{added_of}
 use Rattle.xicsrows.proofs.add.Goals as goal
 

@@ -2,7 +2,6 @@
 use mathlib.Core.List.{List}
 use mathlib.Core.Path.{ap, ◌∙◌}
 use Prim.Native.Nat.{ℕ}
-use borrow.Author.Rules.{rules}
 use Rattle.xicsrows.specs.XicsLayout.{cleared, put_word}
 use Rattle.xicsrows.proofs.clear.Goals as goal
 

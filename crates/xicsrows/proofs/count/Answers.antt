@@ -1,6 +1,5 @@
 -- `xicsrows::count` meets its contract. Assumes nothing.
 use mathlib.Core.Path.{◌∙◌}
-use borrow.Author.Rules.{rules}
 use Rattle.xicsrows.proofs.InPlace.{count_is}
 use Rattle.xicsrows.proofs.count.Goals as goal
 

@@ -3,7 +3,6 @@ use Prim.Native.Nat.{ℕ}
 use mathlib.Core.Path.{ap}
 use lib.Dec.{leb}
 use borrow.Author.Tests.{lt-leb, le-leb}
-use borrow.Author.Rules.{rules}
 use Rattle.xicsrows.specs.XicsLayout.{counts_ok}
 use Rattle.xicsrows.proofs.counts_ok.Goals as goal
 

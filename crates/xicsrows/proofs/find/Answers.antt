@@ -1,9 +1,6 @@
 -- `xicsrows::find` meets its contract. The loop's invariant: no row passed has the number. Assumes nothing.
-use Prim.Native.Nat.{◌-◌}
 use native.Mathlib.Omega.{arith}
-use borrow.Author.Rules.{rules}
-use Rattle.xicsrows.specs.XicsLayout.{table}
-use Rattle.xicsrows.proofs.Search.{Seeking, seek_start, seek_here, seek_turn, seek_end}
+use Rattle.xicsrows.proofs.Search.{seek_start, seek_here, seek_turn, seek_end}
 use Rattle.xicsrows.proofs.find.Goals as goal
 
 pub loop-i-init : goal.loop-i-init

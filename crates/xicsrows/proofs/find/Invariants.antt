@@ -1,9 +1,7 @@
 -- `xicsrows::find` meets its contract. The loop's invariant: no row passed has the number. Assumes nothing.
 use Prim.Native.Nat.{◌-◌}
-use native.Mathlib.Omega.{arith}
-use borrow.Author.Rules.{rules}
 use Rattle.xicsrows.specs.XicsLayout.{table}
-use Rattle.xicsrows.proofs.Search.{Seeking, seek_start, seek_here, seek_turn, seek_end}
+use Rattle.xicsrows.proofs.Search.{Seeking}
 use Rattle.xicsrows.proofs.find.Given as goal
 
 abbrev pub invariant-loop-i : goal.invariant-loop-i

@@ -1,8 +1,6 @@
 -- `xicsrows::is_registered` meets its contract. Assumes nothing.
-use Prim.Native.Nat.{ℕ}
 use mathlib.Core.Path.{ap₂}
 use lib.Dec.{ltb}
-use borrow.Author.Rules.{rules}
 use Rattle.xicsrows.specs.Registered.{registered}
 use Rattle.xicsrows.proofs.is_registered.Goals as goal
 

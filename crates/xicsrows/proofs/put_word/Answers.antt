@@ -1,6 +1,5 @@
 -- `xicsrows::put_word` meets its contract. Assumes nothing.
 use native.Mathlib.Omega.{arith}
-use borrow.Author.Rules.{rules}
 use Rattle.xicsrows.proofs.InPlace.{few, worded_of}
 use Rattle.xicsrows.proofs.put_word.Goals as goal
 

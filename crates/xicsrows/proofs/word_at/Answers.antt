@@ -1,6 +1,5 @@
 -- `xicsrows::word_at` meets its contract. Assumes nothing.
 use native.Mathlib.Omega.{arith}
-use borrow.Author.Rules.{rules}
 use Rattle.xicsrows.proofs.InPlace.{few, word_read}
 use Rattle.xicsrows.proofs.word_at.Goals as goal
 

@@ -1,5 +1,4 @@
 -- `xicsrules::row_ok` meets its contract. Assumes nothing.
-use native.Mathlib.Omega.{arith}
 use Rattle.xicsrules.proofs.Tests.{of_server, of_source, one_is}
 use Rattle.xicsrules.proofs.row_ok.Goals as goal
 

@@ -1,8 +1,7 @@
 -- `xicsrules::server_ok` meets its contract. Assumes nothing.
 use mathlib.Core.Path.{◌≡◌}
 use mathlib.Core.Bool.{true, false}
-use borrow.Author.Rules.{rules}
-use borrow.Author.Tests.{not-true, not-false, lt-ltb, le-ltb}
+use borrow.Author.Tests.{lt-ltb, le-ltb}
 use Rattle.xicsrules.specs.Sound.{server_ok}
 use Rattle.xicsrules.proofs.server_ok.Goals as goal
 

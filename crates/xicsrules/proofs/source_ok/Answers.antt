@@ -1,5 +1,4 @@
 -- `xicsrules::source_ok` meets its contract. Assumes nothing.
-use borrow.Author.Rules.{rules}
 use borrow.Author.Tests.{lt-ltb, le-ltb}
 use Rattle.xicsrules.specs.Sound.{source_ok}
 use Rattle.xicsrules.proofs.source_ok.Goals as goal

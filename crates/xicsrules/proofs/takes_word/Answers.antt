@@ -1,8 +1,6 @@
 -- `xicsrules::takes_word` meets its contract. Assumes nothing.
 use mathlib.Core.Path.{◌≡◌}
 use mathlib.Core.Bool.{true, false}
-use borrow.Author.Rules.{rules}
-use borrow.Author.Tests.{not-true, not-false}
 use Rattle.xicsrules.specs.Sound.{takes}
 use Rattle.xicsrules.proofs.takes_word.Goals as goal
 

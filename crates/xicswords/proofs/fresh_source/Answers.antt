@@ -1,7 +1,6 @@
 -- `xicswords::fresh_source` meets its contract. Assumes nothing.
 use Prim.Native.Nat.{ℕ}
 use mathlib.Core.Path.{ap, ◌∙◌}
-use borrow.Author.Rules.{rules}
 use Rattle.fields.specs.Field.{put_field}
 use Rattle.xicswords.proofs.fresh_source.Goals as goal
 

@@ -1,7 +1,5 @@
 -- `xicswords::is_deliverable` meets its contract. Assumes nothing.
-use Prim.Native.Nat.{ℕ}
 use mathlib.Core.Path.{ap₂}
-use borrow.Author.Rules.{rules}
 use borrow.Author.Tests.{eq-eqb, ne_eqb}
 use lib.Dec.{ltb}
 use Rattle.xicswords.specs.Word.{delivers}

@@ -1,7 +1,6 @@
 -- `xicswords::is_trimmed` meets its contract. Assumes nothing.
 use Prim.Native.Nat.{ℕ}
 use mathlib.Core.Path.{ap}
-use borrow.Author.Rules.{rules}
 use lib.Dec.{eqb}
 use Rattle.xicswords.proofs.is_trimmed.Goals as goal
 

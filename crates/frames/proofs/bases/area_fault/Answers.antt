@@ -1,5 +1,4 @@
 -- `frames::bases::area_fault` meets its contract. Assumes nothing.
-use borrow.Author.Rules.{rules}
 use Rattle.rules.proofs.Facts.{sound_memory, kept_small}
 use Rattle.frames.proofs.Faults.{area_high, area_struck, area_free}
 use Rattle.frames.proofs.bases.area_fault.Goals as goal

@@ -1,5 +1,4 @@
 -- `frames::bases::base_of` meets its contract. Assumes nothing.
-use borrow.Author.Rules.{rules}
 use borrow.Author.Tests.{eq-eqb, ne_eqb}
 use Rattle.frames.proofs.bases.base_of.Goals as goal
 

@@ -1,5 +1,4 @@
 -- `frames::bases::frame_fault` meets its contract. Assumes nothing.
-use borrow.Author.Rules.{rules}
 use borrow.Author.Tests.{eq-eqb, ne_eqb}
 use Rattle.frames.specs.Bases.{frame_fault}
 use Rattle.frames.proofs.bases.frame_fault.Goals as goal

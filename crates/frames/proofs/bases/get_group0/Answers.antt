@@ -1,7 +1,6 @@
 -- `frames::bases::get_group0` meets its contract. Assumes nothing.
 use Prim.Native.Nat.{ℕ}
 use mathlib.Core.Path.{◌∙◌}
-use borrow.Author.Rules.{rules}
 use Rattle.guest.specs.declared.Reading.{Reading}
 use Rattle.frames.proofs.Names.{named_wrong, first, second, third}
 use Rattle.frames.specs.Bases.{get_group0}

@@ -1,5 +1,4 @@
 -- `frames::bases::get_its_group0` meets its contract. Assumes nothing.
-use borrow.Author.Rules.{rules}
 use borrow.Author.Tests.{eq-eqb, ne_eqb}
 use Rattle.frames.specs.Bases.{get_its_group0}
 use Rattle.frames.proofs.bases.get_its_group0.Goals as goal

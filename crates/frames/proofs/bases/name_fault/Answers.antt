@@ -1,6 +1,5 @@
 -- `frames::bases::name_fault` meets its contract. Assumes nothing.
 use mathlib.Core.Path.{◌∙◌, sym}
-use borrow.Author.Rules.{rules}
 use borrow.Author.Tests.{eq-eqb, ne_eqb}
 use Rattle.frames.specs.Bases.{name_fault}
 use Rattle.frames.proofs.bases.name_fault.Goals as goal

@@ -1,5 +1,4 @@
 -- `frames::bases::region_word` meets its contract. Assumes nothing.
-use borrow.Author.Rules.{rules}
 use Rattle.frames.specs.Bases.{region_word}
 use Rattle.frames.proofs.bases.region_word.Goals as goal
 

@@ -1,5 +1,4 @@
 -- `frames::bases::set_distributor` meets its contract. Assumes nothing.
-use borrow.Author.Rules.{rules}
 use Rattle.frames.specs.Bases.{set_distributor}
 use Rattle.frames.proofs.bases.set_distributor.Goals as goal
 

@@ -1,6 +1,5 @@
 -- `frames::bases::set_group0` meets its contract. Assumes nothing.
 use mathlib.Core.Path.{subst}
-use borrow.Author.Rules.{rules}
 use Rattle.guest.specs.Machine.{Does, refuse, view}
 use Rattle.frames.proofs.Names.{named_wrong, first, second, third}
 use Rattle.frames.proofs.Steps.{refusing}

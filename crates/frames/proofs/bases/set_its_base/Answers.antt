@@ -1,5 +1,4 @@
 -- `frames::bases::set_its_base` meets its contract. Assumes nothing.
-use borrow.Author.Rules.{rules}
 use Rattle.frames.specs.Bases.{set_its_base}
 use Rattle.frames.proofs.bases.set_its_base.Goals as goal
 

@@ -1,5 +1,4 @@
 -- `frames::bases::set_its_group0` meets its contract. Assumes nothing.
-use borrow.Author.Rules.{rules}
 use borrow.Author.Tests.{eq-eqb, ne_eqb}
 use Rattle.frames.proofs.Steps.{refusing}
 use Rattle.frames.specs.Bases.{set_its_group0}

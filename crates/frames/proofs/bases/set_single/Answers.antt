@@ -1,5 +1,4 @@
 -- `frames::bases::set_single` meets its contract. Assumes nothing.
-use borrow.Author.Rules.{rules}
 use Rattle.frames.specs.Bases.{set_single}
 use Rattle.frames.proofs.bases.set_single.Goals as goal
 

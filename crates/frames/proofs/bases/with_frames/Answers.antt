@@ -1,6 +1,5 @@
 -- `frames::bases::with_frames` meets its contract. Assumes nothing.
 use mathlib.Core.Path.{refl}
-use borrow.Author.Rules.{rules}
 use borrow.Author.Tests.{eq-eqb, ne_eqb}
 use Rattle.frames.proofs.Steps.{refusing, accepting}
 use Rattle.frames.proofs.bases.with_frames.Goals as goal

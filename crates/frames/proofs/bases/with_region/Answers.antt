@@ -1,6 +1,5 @@
 -- `frames::bases::with_region` meets its contract. Assumes nothing.
 use native.Mathlib.Omega.{arith}
-use lib.ListN.{length-map}
 use borrow.Author.Rules.{rules}
 use Rattle.frames.proofs.Rows.{pushed}
 use Rattle.frames.proofs.bases.with_region.Goals as goal

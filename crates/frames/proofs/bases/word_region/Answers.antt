@@ -1,6 +1,5 @@
 -- `frames::bases::word_region` meets its contract. Assumes nothing.
 use native.Mathlib.Omega.{arith}
-use borrow.Author.Rules.{rules}
 use Rattle.fields.proofs.Laws.{get_lt}
 use Rattle.frames.specs.Bases.{word_region}
 use Rattle.frames.proofs.bases.word_region.Goals as goal

@@ -1,14 +1,12 @@
 -- `frames::init::locate` meets its contract. The loop's invariant: what is left of the regions has what is left of the number where
 -- the regions have it. Assumes nothing.
-use Prim.Native.Nat.{◌≤◌, ◌-◌}
 use native.Mathlib.Omega.{arith}
 use mathlib.Core.Path.{◌≡◌, sym, refl, ◌∙◌}
-use lib.ListN.{length, take, drop, length-map}
+use lib.ListN.{length}
 use borrow.Author.Rules.{rules}
 use Rattle.frames.proofs.Known.{region_at}
 use Rattle.frames.proofs.Locate.{locate_end, locate_here, locate_on}
 use Rattle.frames.proofs.Rows.{region_room}
-use Rattle.frames.specs.Init.{locate}
 use Rattle.frames.proofs.init.locate.Goals as goal
 
 pub loop-i-init : goal.loop-i-init

@@ -1,13 +1,8 @@
 -- `frames::init::locate` meets its contract. The loop's invariant: what is left of the regions has what is left of the number where
 -- the regions have it. Assumes nothing.
 use Prim.Native.Nat.{◌≤◌, ◌-◌}
-use native.Mathlib.Omega.{arith}
-use mathlib.Core.Path.{◌≡◌, sym, refl, ◌∙◌}
-use lib.ListN.{length, take, drop, length-map}
-use borrow.Author.Rules.{rules}
-use Rattle.frames.proofs.Known.{region_at}
-use Rattle.frames.proofs.Locate.{locate_end, locate_here, locate_on}
-use Rattle.frames.proofs.Rows.{region_room}
+use mathlib.Core.Path.{◌≡◌}
+use lib.ListN.{take, drop}
 use Rattle.frames.specs.Init.{locate}
 use Rattle.frames.proofs.init.locate.Given as goal
 

@@ -1,5 +1,4 @@
 -- `frames::init::run_fits` meets its contract. Assumes nothing.
-use borrow.Author.Rules.{rules}
 use Rattle.rules.proofs.Facts.{sound_memory, kept_small}
 use Rattle.frames.proofs.Faults.{run_high, run_low}
 use Rattle.frames.proofs.init.run_fits.Goals as goal

@@ -1,8 +1,8 @@
 -- `frames::init::vgic_init` meets its contract. Assumes nothing.
 use mathlib.Core.Path.{◌≡◌, ◌∙◌, sym, refl}
-use lib.ListN.{length, take, length-map}
+use lib.ListN.{length, take}
 use borrow.Author.Rules.{rules}
-use borrow.Author.Tests.{eq-eqb, ne_eqb, not-true, not-false}
+use borrow.Author.Tests.{eq-eqb, ne_eqb}
 use Rattle.frames.proofs.Rows.{vcpu_count}
 use Rattle.frames.proofs.Steps.{refusing, accepting}
 use Rattle.frames.specs.Init.{vgic_init}

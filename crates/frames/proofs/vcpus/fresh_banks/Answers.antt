@@ -1,6 +1,5 @@
 -- `frames::vcpus::fresh_banks` meets its contract. Assumes nothing.
 use native.Mathlib.Omega.{arith}
-use borrow.Author.Rules.{rules}
 use Rattle.frames.proofs.Rows.{few_banks, take_replicate}
 use Rattle.frames.proofs.vcpus.fresh_banks.Goals as goal
 

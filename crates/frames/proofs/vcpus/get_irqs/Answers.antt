@@ -1,5 +1,4 @@
 -- `frames::vcpus::get_irqs` meets its contract. Assumes nothing.
-use borrow.Author.Rules.{rules}
 use borrow.Author.Tests.{eq-eqb, ne_eqb}
 use Rattle.frames.specs.Vcpus.{get_irqs}
 use Rattle.frames.proofs.vcpus.get_irqs.Goals as goal

@@ -1,6 +1,5 @@
 -- `frames::vcpus::its_init` meets its contract. Assumes nothing.
 use mathlib.Core.Path.{refl}
-use borrow.Author.Rules.{rules}
 use borrow.Author.Tests.{eq-eqb, ne_eqb}
 use Rattle.frames.specs.Vcpus.{its_init}
 use Rattle.frames.proofs.Steps.{refusing, accepting}

@@ -1,7 +1,6 @@
 -- `frames::vcpus::set_irqs` meets its contract. Assumes nothing.
 use mathlib.Core.Path.{◌∙◌, sym}
-use borrow.Author.Rules.{rules}
-use borrow.Author.Tests.{eq-eqb, ne_eqb, not-true, not-false}
+use borrow.Author.Tests.{eq-eqb, ne_eqb}
 use Rattle.frames.proofs.Steps.{refusing, with_banks}
 use Rattle.frames.specs.Vcpus.{set_irqs}
 use Rattle.frames.proofs.vcpus.set_irqs.Goals as goal

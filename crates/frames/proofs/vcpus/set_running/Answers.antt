@@ -1,6 +1,5 @@
 -- `frames::vcpus::set_running` meets its contract. Assumes nothing.
 use mathlib.Core.Path.{refl}
-use borrow.Author.Rules.{rules}
 use borrow.Author.Tests.{eq-eqb, ne_eqb}
 use Rattle.frames.specs.Vcpus.{set_running}
 use Rattle.frames.proofs.Steps.{refusing, accepting}

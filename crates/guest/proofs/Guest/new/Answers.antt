@@ -1,5 +1,4 @@
 use native.Mathlib.Omega.{arith}
-use borrow.Author.Rules.{rules}
 use Rattle.guest.proofs.Guest.new.Goals as goal
 
 pub overflow_sub-banks : goal.overflow_sub-banks

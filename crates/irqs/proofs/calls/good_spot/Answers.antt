@@ -1,7 +1,6 @@
 use Rattle.guest.specs.Machine.{view}
 use Rattle.irqs.proofs.IrqLaws.{fault_vcpu}
 use Rattle.irqs.proofs.SpotLaws.{spot_stands}
-use borrow.Author.Rules.{rules}
 use Rattle.irqs.proofs.calls.good_spot.Goals as goal
 
 pub returns : goal.returns

@@ -1,7 +1,6 @@
 use mathlib.Core.Path.{sym}
 use Rattle.guest.specs.Machine.{view}
 use Rattle.irqs.proofs.IrqLaws.{not_ready_lem, no_vcpu_lem, no_intid, no_fault}
-use borrow.Author.Rules.{rules}
 use Rattle.irqs.proofs.calls.irq_fault.Goals as goal
 
 pub returns-then-g-ne1 : goal.returns-then-g-ne1

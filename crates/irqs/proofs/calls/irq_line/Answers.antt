@@ -3,7 +3,6 @@ use mathlib.Core.Path.{ap, ◌∙◌}
 use Rattle.guest.specs.Machine.{view}
 use Rattle.banks.specs.Bank.{lined}
 use Rattle.irqs.proofs.IrqLaws.{does_refuse, line_refused, line_above, line_sgi, line_done}
-use borrow.Author.Rules.{rules}
 use Rattle.irqs.proofs.calls.irq_line.Goals as goal
 
 pub returns-then-e-ne0 : goal.returns-then-e-ne0

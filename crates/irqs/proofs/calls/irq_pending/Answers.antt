@@ -1,7 +1,6 @@
 use mathlib.Core.Path.{sym, ◌∙◌}
 use Rattle.guest.specs.Machine.{view}
 use Rattle.irqs.proofs.IrqLaws.{pending_refused, pending_told}
-use borrow.Author.Rules.{rules}
 use Rattle.irqs.proofs.calls.irq_pending.Goals as goal
 
 pub returns-then-e-ne0 : goal.returns-then-e-ne0

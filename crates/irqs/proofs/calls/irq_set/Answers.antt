@@ -4,7 +4,6 @@ use Rattle.guest.specs.Machine.{view}
 use Rattle.banks.specs.Bank.{raised}
 use Rattle.irqs.specs.Irqs.{irq_set}
 use Rattle.irqs.proofs.IrqLaws.{does_refuse, change_refused, change_done}
-use borrow.Author.Rules.{rules}
 use Rattle.irqs.proofs.calls.irq_set.Goals as goal
 
 pub returns-then-e-ne0 : goal.returns-then-e-ne0

@@ -6,7 +6,6 @@ use Rattle.banks.specs.Bank.{with_trigger}
 use Rattle.irqs.specs.Spots.{spot_of, trigger_word}
 use Rattle.irqs.specs.Irqs.{irq_trigger}
 use Rattle.irqs.proofs.IrqLaws.{does_refuse, change_refused, change_done}
-use borrow.Author.Rules.{rules}
 use Rattle.irqs.proofs.calls.irq_trigger.Goals as goal
 
 pub returns-then-e-ne0 : goal.returns-then-e-ne0

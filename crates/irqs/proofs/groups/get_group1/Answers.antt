@@ -2,7 +2,6 @@ use mathlib.Core.Path.{sym, ap, ◌∙◌}
 use Rattle.guest.specs.Machine.{view}
 use Rattle.irqs.specs.Registers.{distributor_register}
 use Rattle.irqs.proofs.GroupLaws.{get1_refused, get1_told}
-use borrow.Author.Rules.{rules}
 use Rattle.irqs.proofs.groups.get_group1.Goals as goal
 
 pub returns-then-e-ne0 : goal.returns-then-e-ne0

@@ -3,7 +3,6 @@ use Rattle.guest.specs.Machine.{view}
 use borrow.Author.Tests.{eqb-false}
 use Rattle.irqs.specs.Registers.{redistributor_register}
 use Rattle.irqs.proofs.GroupLaws.{fault5_register, fault5_vcpu, get5_refused, get5_told}
-use borrow.Author.Rules.{rules}
 use Rattle.irqs.proofs.groups.get_group5.Goals as goal
 
 pub returns-then-e-ne0 : goal.returns-then-e-ne0

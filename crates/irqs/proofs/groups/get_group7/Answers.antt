@@ -1,7 +1,6 @@
 use mathlib.Core.Path.{sym, ◌∙◌}
 use Rattle.guest.specs.Machine.{view}
 use Rattle.irqs.proofs.GroupLaws.{fault7_vintid, level_stands, get7_refused, get7_told}
-use borrow.Author.Rules.{rules}
 use Rattle.irqs.proofs.groups.get_group7.Goals as goal
 
 pub returns-then-e-ne0 : goal.returns-then-e-ne0

@@ -1,6 +1,5 @@
 use borrow.Author.Tests.{eq-eqb, ne_eqb, lt-ltb, le-ltb}
 use Rattle.irqs.specs.Registers.{group7_fault}
-use borrow.Author.Rules.{rules}
 use Rattle.irqs.proofs.groups.group7_fault.Goals as goal
 
 pub returns-then-width-ne4 : goal.returns-then-width-ne4

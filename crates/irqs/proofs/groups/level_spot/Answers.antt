@@ -1,6 +1,5 @@
 use borrow.Author.Tests.{eq-eqb, ne_eqb}
 use Rattle.irqs.specs.Registers.{level_spot}
-use borrow.Author.Rules.{rules}
 use Rattle.irqs.proofs.groups.level_spot.Goals as goal
 
 pub returns-then-vintid-eq0 : goal.returns-then-vintid-eq0

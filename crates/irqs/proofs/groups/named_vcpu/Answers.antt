@@ -1,4 +1,3 @@
-use borrow.Author.Rules.{rules}
 use Rattle.irqs.proofs.groups.named_vcpu.Goals as goal
 
 pub returns : goal.returns

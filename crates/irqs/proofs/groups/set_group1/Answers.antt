@@ -3,7 +3,6 @@ use Rattle.guest.specs.Machine.{view}
 use Rattle.irqs.specs.Registers.{distributor_register}
 use Rattle.irqs.proofs.IrqLaws.{does_refuse, does_accept}
 use Rattle.irqs.proofs.GroupLaws.{set1_refused, set1_done}
-use borrow.Author.Rules.{rules}
 use Rattle.irqs.proofs.groups.set_group1.Goals as goal
 
 pub returns-then-e-ne0 : goal.returns-then-e-ne0

@@ -4,7 +4,6 @@ use borrow.Author.Tests.{eqb-false}
 use Rattle.irqs.specs.Registers.{redistributor_register}
 use Rattle.irqs.proofs.IrqLaws.{does_refuse, does_accept}
 use Rattle.irqs.proofs.GroupLaws.{fault5_register, fault5_vcpu, set5_refused, set5_done}
-use borrow.Author.Rules.{rules}
 use Rattle.irqs.proofs.groups.set_group5.Goals as goal
 
 pub returns-then-e-ne0 : goal.returns-then-e-ne0

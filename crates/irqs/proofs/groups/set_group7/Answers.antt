@@ -4,7 +4,6 @@ use Prim.Native.Nat.{ℕ}
 use Rattle.banks.specs.Bank.{with_level}
 use Rattle.irqs.proofs.IrqLaws.{does_refuse}
 use Rattle.irqs.proofs.GroupLaws.{fault7_vintid, level_stands, set7_refused, set7_done}
-use borrow.Author.Rules.{rules}
 use Rattle.irqs.proofs.groups.set_group7.Goals as goal
 
 pub returns-then-e-ne0 : goal.returns-then-e-ne0

@@ -4,7 +4,6 @@ use Rattle.guest.specs.Machine.{view}
 use Rattle.irqs.specs.declared.Spot.{Spot}
 use Rattle.irqs.specs.Spots.{bank_of}
 use Rattle.irqs.proofs.SpotLaws.{shared_stands}
-use borrow.Author.Rules.{rules}
 use Rattle.irqs.proofs.registers.distributor_read.Goals as goal
 
 pub shared_spot-requires : goal.shared_spot-requires

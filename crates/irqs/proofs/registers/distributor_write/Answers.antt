@@ -1,7 +1,6 @@
 use mathlib.Core.Path.{refl}
 use Rattle.guest.specs.Machine.{view}
 use Rattle.irqs.proofs.SpotLaws.{shared_stands}
-use borrow.Author.Rules.{rules}
 use Rattle.irqs.proofs.registers.distributor_write.Goals as goal
 
 pub shared_spot-spot-requires : goal.shared_spot-spot-requires

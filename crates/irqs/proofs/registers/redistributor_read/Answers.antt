@@ -1,4 +1,3 @@
-use borrow.Author.Rules.{rules}
 use Rattle.irqs.proofs.registers.redistributor_read.Goals as goal
 
 pub returns-in-Latch : goal.returns-in-Latch

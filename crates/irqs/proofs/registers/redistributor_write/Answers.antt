@@ -1,5 +1,4 @@
 use mathlib.Core.Path.{refl}
-use borrow.Author.Rules.{rules}
 use Rattle.irqs.proofs.registers.redistributor_write.Goals as goal
 
 pub returns-in-Latch : goal.returns-in-Latch

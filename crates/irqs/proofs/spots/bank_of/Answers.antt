@@ -1,4 +1,3 @@
-use borrow.Author.Rules.{rules}
 use Rattle.irqs.proofs.spots.bank_of.Goals as goal
 
 pub vcpu_at-v-requires : goal.vcpu_at-v-requires

@@ -1,6 +1,6 @@
 use borrow.Author.Rules.{rules}
 use mathlib.Core.Path.{◌≡◌, sym}
-use lib.ListN.{length, length-map}
+use lib.ListN.{length}
 use Rattle.irqs.proofs.SpotLaws.{shared_count_lem}
 use Rattle.irqs.proofs.spots.shared_count.Goals as goal
 

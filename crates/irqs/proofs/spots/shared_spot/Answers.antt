@@ -1,6 +1,5 @@
 use borrow.Author.Tests.{lt-ltb, le-ltb}
 use Rattle.irqs.specs.Spots.{shared_spot}
-use borrow.Author.Rules.{rules}
 use Rattle.irqs.proofs.spots.shared_spot.Goals as goal
 
 pub returns-then-j-shared_count : goal.returns-then-j-shared_count

@@ -1,6 +1,5 @@
 use borrow.Author.Tests.{lt-ltb, le-ltb}
 use Rattle.irqs.specs.Spots.{spot_of}
-use borrow.Author.Rules.{rules}
 use Rattle.irqs.proofs.spots.spot_of.Goals as goal
 
 pub returns-then-intid-lt32 : goal.returns-then-intid-lt32

@@ -1,5 +1,4 @@
 use Rattle.irqs.proofs.IrqLaws.{does_accept}
-use borrow.Author.Rules.{rules}
 use Rattle.irqs.proofs.spots.stored.Goals as goal
 
 pub returns : goal.returns

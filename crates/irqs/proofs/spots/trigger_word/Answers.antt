@@ -1,4 +1,3 @@
-use borrow.Author.Rules.{rules}
 use Rattle.irqs.proofs.spots.trigger_word.Goals as goal
 
 pub returns-in-Own : goal.returns-in-Own

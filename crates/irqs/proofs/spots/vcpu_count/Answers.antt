@@ -1,6 +1,6 @@
 use borrow.Author.Rules.{rules}
 use mathlib.Core.Path.{◌≡◌, sym}
-use lib.ListN.{length, length-map}
+use lib.ListN.{length}
 use Rattle.irqs.proofs.SpotLaws.{vcpus_count}
 use Rattle.irqs.proofs.spots.vcpu_count.Goals as goal
 

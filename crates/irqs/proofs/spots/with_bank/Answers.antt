@@ -1,5 +1,4 @@
 use mathlib.Core.Path.{refl}
-use borrow.Author.Rules.{rules}
 use Rattle.irqs.proofs.spots.with_bank.Goals as goal
 
 pub vcpu_at-v-requires : goal.vcpu_at-v-requires

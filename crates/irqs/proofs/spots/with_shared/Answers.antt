@@ -1,5 +1,4 @@
 use native.Mathlib.Omega.{arith}
-use borrow.Author.Rules.{rules}
 use Rattle.guest.proofs.Anchors.{bits_least, bits_most}
 use Rattle.irqs.proofs.Lists.{row_set}
 use Rattle.irqs.proofs.SpotLaws.{shared_within}

@@ -1,5 +1,4 @@
 -- `keeps::banks::bank_fits` meets its contract: a test that fails breaks the rule, and the last one decides. Assumes nothing.
-use borrow.Author.Rules.{rules}
 use Rattle.keeps.proofs.BankTests.{fits_not_latch, fits_not_level, fits_last}
 use Rattle.keeps.proofs.banks.bank_fits.Goals as goal
 

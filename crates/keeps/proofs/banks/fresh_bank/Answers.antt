@@ -1,5 +1,4 @@
 -- `keeps::banks::fresh_bank` meets its contract. Assumes nothing.
-use borrow.Author.Rules.{rules}
 use Rattle.rules.specs.Rules.{fresh_bank}
 use Rattle.keeps.proofs.banks.fresh_bank.Goals as goal
 

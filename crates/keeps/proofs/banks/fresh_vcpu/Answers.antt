@@ -1,6 +1,5 @@
 -- `keeps::banks::fresh_vcpu` meets its contract. Assumes nothing.
 use borrow.Author.Tests.{eq-eqb, ne_eqb}
-use borrow.Author.Rules.{rules}
 use Rattle.rules.specs.Rules.{fresh_vcpu}
 use Rattle.keeps.proofs.banks.fresh_vcpu.Goals as goal
 

@@ -2,7 +2,6 @@
 use native.Mathlib.Nat.{le_trans}
 use native.Mathlib.Omega.{arith}
 use lib.Dec.{lit≤}
-use borrow.Author.Rules.{rules}
 use Rattle.guest.proofs.Anchors.{bits_most}
 use Rattle.keeps.proofs.BankTests.{last_none, last_there}
 use Rattle.keeps.proofs.banks.last_ok.Goals as goal

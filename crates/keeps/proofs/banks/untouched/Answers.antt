@@ -1,5 +1,4 @@
 -- `keeps::banks::untouched` meets its contract: a test that fails breaks the rule, and the last one decides. Assumes nothing.
-use borrow.Author.Rules.{rules}
 use Rattle.keeps.proofs.Verdicts.{passed, failed}
 use Rattle.keeps.proofs.BankTests.{untouched_after, not_status, not_vcpus, untouched_last}
 use Rattle.keeps.proofs.banks.untouched.Goals as goal
