@@ -35,13 +35,9 @@ module _ {A : Type 0} (p : A → Bool) (n : ℕ) (l : List A) (r : n ≤ length 
   pub row_read : (d : A) → at < n → get_or (take n l) (find_ix p (take n l)) d ≡ get_or l at d
   row_read d h = rw (← e) (get_or-take n l at d h)
 
--- `.good` of a function's entry has it of each parameter that is a mapping
-pub full_of : (k : Mapping) (v : Valss (shape the_type).fields) → shadow (owns (shape the_type).fields (the_type.to k) v) → Full k
-full_of k v o = record {
-  devices = simp length-map at o.0.1.0.1;
-  collections = simp length-map at o.1.1.0.1.0.1;
-  events = simp length-map at o.1.1.1.1.0.1.0.1;
-}
+-- the lengths of its arrays, which each function that has a mapping knows
+pub full_of : (k : Mapping) → length k.devices ≡ 32 → length k.collections ≡ 16 → length k.events ≡ 1024 → Full k
+full_of k d c e = record { devices = d; collections = c; events = e }
 
 module _ (k : Mapping) (f : Full k) (w : Within k) where
   pub devices_room : k.ndevices ≤ length k.devices

@@ -1,0 +1,13 @@
+-- `frames::vcpus::fresh_banks` meets its contract. Assumes nothing.
+use native.Mathlib.Omega.{arith}
+use borrow.Author.Rules.{rules}
+use Rattle.frames.proofs.Rows.{few_banks, take_replicate}
+use Rattle.frames.proofs.vcpus.fresh_banks.Goals as goal
+
+pub overflow_sub-result : goal.overflow_sub-result
+overflow_sub-result c = let f = few_banks c.args.irqs c.requires in omega (arith, f.0)
+
+pub returns : goal.returns
+returns c =
+    let f = few_banks c.args.irqs c.requires in
+    (rw c.fresh_bank.ensures (take_replicate _ 31 _ f.1), f.1)

@@ -1,0 +1,10 @@
+use Rattle.guest.specs.Machine.{view}
+use Rattle.irqs.proofs.IrqLaws.{fault_vcpu}
+use Rattle.irqs.proofs.SpotLaws.{spot_stands}
+use borrow.Author.Rules.{rules}
+use Rattle.irqs.proofs.calls.good_spot.Goals as goal
+
+pub returns : goal.returns
+returns c =
+    let m = view c.args.g in
+    (c.spot_of_lem.ensures, rw c.spot_of_lem.ensures (spot_stands m c.args.vcpu c.args.intid (fault_vcpu c.args.vcpu c.args.intid m c.requires.1)))

@@ -1,0 +1,18 @@
+use native.Mathlib.Omega.{arith}
+use Rattle.irqs.proofs.Lists.{row_set}
+use Rattle.irqs.proofs.SpotLaws.{vcpu_within}
+use Rattle.irqs.proofs.spots.with_vcpu.Goals as goal
+
+pub offset_bounds-vcpus-k : goal.offset_bounds-vcpus-k
+offset_bounds-vcpus-k c = omega (arith, vcpu_within c.args.g c.requires.0 c.args.k c.requires.1)
+
+pub bounds-vcpus-k : goal.bounds-vcpus-k
+bounds-vcpus-k c = vcpu_within c.args.g c.requires.0 c.args.k c.requires.1
+
+pub returns : goal.returns
+returns c =
+    let h = c.requires.0 in
+    record {
+      is = rw (row_set c.args.g.vcpus.count c.args.g.vcpus.rows c.args.k c.requires.1 c.args.v);
+      held = record { regions = h.regions; vcpus = h.vcpus; shared = h.shared };
+    }

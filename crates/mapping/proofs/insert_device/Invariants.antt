@@ -1,0 +1,16 @@
+-- `mapping::insert_device` meets its contract. Assumes nothing.
+use Prim.Native.Nat.{◌+◌, ◌-◌}
+use native.Mathlib.Omega.{arith}
+use mathlib.Core.Path.{refl}
+use borrow.Author.Rules.{rules}
+use Rattle.mapping.specs.Mapped.{no_device}
+use Rattle.mapping.proofs.Counts.{full_of}
+use Rattle.mapping.proofs.Table.{Insertion, insertion_start, insertion_turn, insertion_end}
+use Rattle.mapping.proofs.Replace.{SameDevices, devices_turn, devices_end}
+use Rattle.mapping.proofs.insert_device.Given as goal
+
+abbrev pub invariant-loop-j : goal.invariant-loop-j
+invariant-loop-j l = Insertion l.initial.k.devices l.n l.i l.initial.carry no_device l.k.devices l.carry l.j × SameDevices l.initial.k l.k
+
+abbrev pub decreases-loop-j : goal.decreases-loop-j
+decreases-loop-j l = l.n + 1 - l.j

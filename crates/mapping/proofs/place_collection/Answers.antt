@@ -1,0 +1,24 @@
+-- `mapping::place_collection` meets its contract. Assumes nothing.
+use Prim.Native.Nat.{◌-◌}
+use native.Mathlib.Omega.{arith}
+use lib.Dec.{leb}
+use borrow.Author.Rules.{rules}
+use borrow.Author.Tests.{le-leb, lt-leb}
+use Rattle.mapping.specs.Mapped.{collection_key, no_collection}
+use Rattle.mapping.proofs.Counts.{full_of}
+use Rattle.mapping.proofs.Table.{Seeking, seek_start, seek_turn, seek_here, seek_end}
+use Rattle.mapping.proofs.place_collection.Goals as goal
+
+pub loop-i-init : goal.loop-i-init
+loop-i-init c = seek_start _ _ _ _ (omega (arith, c.requires, (record { devices = search rules; collections = search rules; events = search rules }).collections))
+
+pub returns-then-icid-c : goal.returns-then-icid-c
+returns-then-icid-c c =
+    seek_here _ _ _ _ _ c.loop-i.invariant c.loop-i-test.true (le-leb _ _ c.if-icid-c.true)
+
+pub loop-i-preserved : goal.loop-i-preserved
+loop-i-preserved c =
+    seek_turn _ _ _ _ _ c.loop-i.invariant c.loop-i-test.true (lt-leb _ _ c.if-icid-c.false)
+
+pub returns : goal.returns
+returns c = seek_end _ _ _ _ _ c.loop-i.invariant c.loop-i-test.false

@@ -1,0 +1,23 @@
+-- `mapping::remove_collection` meets its contract. Assumes nothing.
+use Prim.Native.Nat.{◌-◌}
+use native.Mathlib.Omega.{arith}
+use mathlib.Core.Path.{refl}
+use borrow.Author.Rules.{rules}
+use Rattle.mapping.specs.Mapped.{no_collection}
+use Rattle.mapping.proofs.Counts.{full_of}
+use Rattle.mapping.proofs.Table.{Removal, removal_start, removal_turn, removal_end}
+use Rattle.mapping.proofs.Replace.{SameCollections, collections_turn, collections_end}
+use Rattle.mapping.proofs.remove_collection.Goals as goal
+
+pub loop-j-init : goal.loop-j-init
+loop-j-init c =
+    (removal_start _ _ _ (omega (arith, c.requires, (record { devices = search rules; collections = search rules; events = search rules }).collections)) (omega (arith, c.requires)), refl)
+
+pub loop-j-preserved : goal.loop-j-preserved
+loop-j-preserved c =
+    (removal_turn _ _ _ no_collection _ _ c.loop-j-test.true c.loop-j.invariant.0, collections_turn c.args.k _ c.loop-j.invariant.1 _)
+
+pub returns : goal.returns
+returns c =
+    collections_end _ _ c.loop-j.invariant.1 _ _ c.requires.0 (omega (arith, c.requires))
+    (removal_end _ _ _ _ _ _ refl (omega (arith, c.requires)) c.loop-j-test.false c.loop-j.invariant.0)

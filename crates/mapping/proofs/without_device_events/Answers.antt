@@ -1,0 +1,32 @@
+-- `mapping::without_device_events` meets its contract. Assumes nothing.
+use Prim.Native.Nat.{◌-◌}
+use native.Mathlib.Omega.{arith}
+use mathlib.Core.Path.{refl, ap}
+use mathlib.Core.Logic.{⊎_elim}
+use mathlib.Core.Bool.{not}
+use borrow.Author.Rules.{rules}
+use borrow.Author.Tests.{eq-eqb, ne_eqb}
+use Rattle.mapping.specs.Mapped.{no_event}
+use Rattle.mapping.specs.Commands.{of_other}
+use Rattle.mapping.proofs.Counts.{full_of}
+use Rattle.mapping.proofs.Table.{Keeping, keep_start, keep_yes, keep_no, keep_end}
+use Rattle.mapping.proofs.Replace.{SameEvents, events_turn, events_end}
+use Rattle.mapping.proofs.without_device_events.Goals as goal
+
+pub loop-i-init : goal.loop-i-init
+loop-i-init c =
+    (keep_start _ _ _ (omega (arith, c.requires, (record { devices = search rules; collections = search rules; events = search rules }).events)), refl)
+
+pub loop-i-preserved : goal.loop-i-preserved
+loop-i-preserved c =
+    ⊎_elim
+    (λ w. rw (w.1, w.2)
+    (keep_yes _ _ _ no_event _ _ _ c.loop-i-test.true c.loop-i.invariant.0 (ap not (ne_eqb _ _ w.0.taken)), events_turn c.args.k _ c.loop-i.invariant.1 _))
+    (λ w. rw (w.1, w.2)
+    (keep_no _ _ _ no_event _ _ _ c.loop-i-test.true c.loop-i.invariant.0 (ap not (eq-eqb _ _ w.0.left)), c.loop-i.invariant.1))
+    c.if-e-id.branch
+
+pub returns : goal.returns
+returns c =
+    events_end _ _ c.loop-i.invariant.1 _ _ c.requires (omega (arith, c.requires))
+    (keep_end _ _ _ _ _ _ c.loop-i-test.false c.loop-i.invariant.0)
