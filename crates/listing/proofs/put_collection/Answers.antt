@@ -1,7 +1,6 @@
 -- `listing::put_collection` meets its contract. Assumes nothing.
 use native.Mathlib.Omega.{arith}
 use mathlib.Core.List.{append_assoc}
-use borrow.Author.Rules.{rules}
 use Rattle.lines.proofs.Laws.{adds_both, adds_as}
 use Rattle.listing.specs.Listing.{collection_line}
 use Rattle.listing.proofs.put_collection.Goals as goal

@@ -1,7 +1,6 @@
 -- `listing::put_event` meets its contract. Assumes nothing.
 use native.Mathlib.Omega.{arith}
 use mathlib.Core.List.{append_assoc}
-use borrow.Author.Rules.{rules}
 use Rattle.lines.proofs.Laws.{adds_both, adds_as}
 use Rattle.listing.specs.Listing.{event_line}
 use Rattle.listing.proofs.put_event.Goals as goal

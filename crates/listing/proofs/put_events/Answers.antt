@@ -1,10 +1,8 @@
 -- `listing::put_events` meets its contract. Assumes nothing.
-use Prim.Native.Nat.{◌-◌}
 use native.Mathlib.Omega.{arith}
 use borrow.Author.Rules.{rules}
-use Rattle.mapping.specs.Mapped.{no_event}
 use Rattle.mapping.proofs.Counts.{full_of, events_room}
-use Rattle.lines.proofs.Laws.{Listing, list_start, list_room, list_turn, list_end}
+use Rattle.lines.proofs.Laws.{list_start, list_room, list_turn, list_end}
 use Rattle.listing.specs.Listing.{event_line}
 use Rattle.listing.proofs.Tables.{table_added}
 use Rattle.listing.proofs.put_events.Goals as goal

@@ -1,7 +1,6 @@
 -- `listing::put_mapping` meets its contract. Assumes nothing.
 use native.Mathlib.Omega.{arith}
 use mathlib.Core.Path.{refl}
-use borrow.Author.Rules.{rules}
 use Rattle.lines.proofs.Laws.{adds_both, adds_as}
 use Rattle.listing.specs.Listing.{listing}
 use Rattle.listing.proofs.put_mapping.Goals as goal
