@@ -141,10 +141,10 @@ box_sound m k s b l g e =
 -- a machine over bytes that got no mapping
 module _ (m : Machine) (s : List ℕ) (l : length s ≡ size) (g : Good m) where
   empty_room : MapRoom empty
-  empty_room = map_room m empty g.rules (placing.empty-ok m g.rules)
+  empty_room = map_room m empty g.rules (placing.empty_ok m g.rules)
 
   empty_is : decode_map (stored_map empty s) ≡ empty
-  empty_is = decode-stored_map empty s l empty_room (mapping_words m empty g.rules (placing.empty-ok m g.rules))
+  empty_is = decode-stored_map empty s l empty_room (mapping_words m empty g.rules (placing.empty_ok m g.rules))
 
   pub fresh_is : decode (stored m (stored_map empty s)) ≡ m
   fresh_is = stored_is m (stored_map empty s) (length-stored_map empty s l empty_room) g
@@ -156,4 +156,4 @@ module _ (m : Machine) (s : List ℕ) (l : length s ≡ size) (g : Good m) where
   fresh_sound b =
       stored_sound m (stored_map empty s) (length-stored_map empty s l empty_room) g (bytes-stored_map empty s b)
       (map_counts_of (stored_map empty s) empty empty_is empty_room)
-      (ap (map_rules m) empty_is ∙ placing.empty-ok m g.rules)
+      (ap (map_rules m) empty_is ∙ placing.empty_ok m g.rules)

@@ -57,46 +57,46 @@ module _ (l : List Region) (n : ℕ) (long : n ≡ length l) (i : ℕ) where
   many = long ∙ sym (length-map l region_area)
 
   pub covers_end : (left : ℕ) → n ≤ i → leb left (total (drop i l)) ≡ eqb left 0
-  covers_end left h = rw (whole l n long) at (rows.covers-end n l i (fits l n long) left h)
+  covers_end left h = rw (whole l n long) at (rows.covers_end n l i (fits l n long) left h)
 
   pub struck_end : (a : Area) → n ≤ i → strikes (drop i places) a ≡ false
-  struck_end a h = rw (whole places n many) at (table.strikes-end n places i (fits places n many) a h)
+  struck_end a h = rw (whole places n many) at (table.strikes_end n places i (fits places n many) a h)
 
   pub apart_end : n ≤ i → apart (drop i places) ≡ true
-  apart_end h = rw (whole places n many) at (table.apart-end n places i (fits places n many) h)
+  apart_end h = rw (whole places n many) at (table.apart_end n places i (fits places n many) h)
 
   module _ (r : Region) (e : r ≡ get_or l i no_region) (h : i < n) where
     pub count_small : all small_count l ≡ true → r.count < 4096
     count_small a = rw e (rows.count_small n l i (fits l n long) h (rw (whole l n long) a))
 
     pub covers_here : (left : ℕ) → left ≤ r.count → leb left (total (drop i l)) ≡ true
-    covers_here left g = rw (whole l n long) at (rows.covers-here n l i (fits l n long) left h (rw e at g))
+    covers_here left g = rw (whole l n long) at (rows.covers_here n l i (fits l n long) left h (rw e at g))
 
     pub covers_later : (left : ℕ) → r.count < left → leb left (total (drop i l)) ≡ leb (left - r.count) (total (drop (i + 1) l))
-    covers_later left g = rw (whole l n long, ← e) at (rows.covers-later n l i (fits l n long) left h (rw e at g))
+    covers_later left g = rw (whole l n long, ← e) at (rows.covers_later n l i (fits l n long) left h (rw e at g))
 
     area_at : get_or places i no_area ≡ region_area r
     area_at = get_or-map region_area l i no_region ∙ ap region_area (sym e)
 
     pub struck_here : (a : Area) → overlaps a (region_area r) ≡ true → strikes (drop i places) a ≡ true
-    struck_here a o = rw (whole places n many) at (table.strikes-here n places i (fits places n many) a h (rw area_at o))
+    struck_here a o = rw (whole places n many) at (table.strikes_here n places i (fits places n many) a h (rw area_at o))
 
     pub struck_later : (a : Area) → overlaps a (region_area r) ≡ false → strikes (drop i places) a ≡ strikes (drop (i + 1) places) a
-    struck_later a o = rw (whole places n many) at (table.strikes-later n places i (fits places n many) a h (rw area_at o))
+    struck_later a o = rw (whole places n many) at (table.strikes_later n places i (fits places n many) a h (rw area_at o))
 
     pub apart_here : strikes (drop (i + 1) places) (region_area r) ≡ true → apart (drop i places) ≡ false
-    apart_here s = rw (whole places n many) at (table.apart-here n places i (fits places n many) h (rw (whole places n many, area_at) s))
+    apart_here s = rw (whole places n many) at (table.apart_here n places i (fits places n many) h (rw (whole places n many, area_at) s))
 
     pub apart_later : strikes (drop (i + 1) places) (region_area r) ≡ false → apart (drop i places) ≡ apart (drop (i + 1) places)
-    apart_later s = rw (whole places n many) at (table.apart-later n places i (fits places n many) h (rw (whole places n many, area_at) s))
+    apart_later s = rw (whole places n many) at (table.apart_later n places i (fits places n many) h (rw (whole places n many, area_at) s))
 
 -- the affinities of the VCPUs
 module _ (l : List Vcpu) (n : ℕ) (long : n ≡ length l) (i : ℕ) where
   pub taken_end : (a : ℕ) → n ≤ i → taken (drop i l) a ≡ false
-  taken_end a h = rw (whole l n long) at (rows.taken-end n l i (fits l n long) a h)
+  taken_end a h = rw (whole l n long) at (rows.taken_end n l i (fits l n long) a h)
 
   pub distinct_end : n ≤ i → distinct (drop i l) ≡ true
-  distinct_end h = rw (whole l n long) at (rows.distinct-end n l i (fits l n long) h)
+  distinct_end h = rw (whole l n long) at (rows.distinct_end n l i (fits l n long) h)
 
   module _ (v : Vcpu) (e : v ≡ get_or l i (no_vcpu 0)) (h : i < n) where
     affinity_at : (get_or l i blank_vcpu).affinity ≡ v.affinity
@@ -106,10 +106,10 @@ module _ (l : List Vcpu) (n : ℕ) (long : n ≡ length l) (i : ℕ) where
     taken_here a q = rw (whole l n long) at (rows.taken_here n l i (fits l n long) a h (affinity_at ∙ q))
 
     pub taken_later : (a : ℕ) → (v.affinity ≡ a → ⊥) → taken (drop i l) a ≡ taken (drop (i + 1) l) a
-    taken_later a k = rw (whole l n long) at (rows.taken-later n l i (fits l n long) a h (rw affinity_at (ne_eqb v.affinity a k)))
+    taken_later a k = rw (whole l n long) at (rows.taken_later n l i (fits l n long) a h (rw affinity_at (ne_eqb v.affinity a k)))
 
     pub distinct_here : taken (drop (i + 1) l) v.affinity ≡ true → distinct (drop i l) ≡ false
-    distinct_here t = rw (whole l n long) at (rows.distinct-here n l i (fits l n long) h (rw (whole l n long, affinity_at) t))
+    distinct_here t = rw (whole l n long) at (rows.distinct_here n l i (fits l n long) h (rw (whole l n long, affinity_at) t))
 
     pub distinct_later : taken (drop (i + 1) l) v.affinity ≡ false → distinct (drop i l) ≡ distinct (drop (i + 1) l)
-    distinct_later t = rw (whole l n long) at (rows.distinct-later n l i (fits l n long) h (rw (whole l n long, affinity_at) t))
+    distinct_later t = rw (whole l n long) at (rows.distinct_later n l i (fits l n long) h (rw (whole l n long, affinity_at) t))

@@ -8,7 +8,7 @@ use Rattle.keeps.proofs.Verdicts.{frames_hold, frames_last, passed, failed}
 use Rattle.keeps.proofs.frames_ok.Goals as goal
 
 pub run_size-size-requires : goal.run_size-size-requires
-run_size-size-requires c = (c.requires.0, c.requires.1.1)
+run_size-size-requires c = (c.requires.counted, c.requires.end_value.1)
 
 pub returns-then-not-frame_ok : goal.returns-then-not-frame_ok
 returns-then-not-frame_ok c =

@@ -13,16 +13,16 @@ use Rattle.keeps.proofs.Rows.{count_small, struck_here, struck_later, struck_end
 use Rattle.keeps.proofs.region_struck.Goals as goal
 
 pub region_count-n-requires : goal.region_count-n-requires
-region_count-n-requires c = c.requires.0.0
+region_count-n-requires c = c.requires.counted.0
 
 pub loop-i-init : goal.loop-i-init
-loop-i-init c = (omega (arith, c.requires.1, c.region_count-n.ensures), refl)
+loop-i-init c = (omega (arith, c.requires.from_in_bounds, c.region_count-n.ensures), refl)
 
 pub region_at-row-requires : goal.region_at-row-requires
-region_at-row-requires c = (c.requires.0.0, omega (arith, c.loop-i-test.true, c.region_count-n.ensures))
+region_at-row-requires c = (c.requires.counted.0, omega (arith, c.loop-i-test.true, c.region_count-n.ensures))
 
 pub overflow_mul-b : goal.overflow_mul-b
-overflow_mul-b c = omega (arith, count_small _ _ c.region_count-n.ensures _ _ c.region_at-row.ensures c.loop-i-test.true c.requires.0.1)
+overflow_mul-b c = omega (arith, count_small _ _ c.region_count-n.ensures _ _ c.region_at-row.ensures c.loop-i-test.true c.requires.counted.1)
 
 pub returns-then-overlaps : goal.returns-then-overlaps
 returns-then-overlaps c =

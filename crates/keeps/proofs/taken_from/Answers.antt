@@ -11,13 +11,13 @@ use Rattle.keeps.proofs.Rows.{taken_here, taken_later, taken_end}
 use Rattle.keeps.proofs.taken_from.Goals as goal
 
 pub vcpu_count-n-requires : goal.vcpu_count-n-requires
-vcpu_count-n-requires c = c.requires.0
+vcpu_count-n-requires c = c.requires.counted
 
 pub loop-i-init : goal.loop-i-init
-loop-i-init c = (omega (arith, c.requires.1, c.vcpu_count-n.ensures), refl)
+loop-i-init c = (omega (arith, c.requires.from_in_bounds, c.vcpu_count-n.ensures), refl)
 
 pub vcpu_at-row-requires : goal.vcpu_at-row-requires
-vcpu_at-row-requires c = (c.requires.0, omega (arith, c.loop-i-test.true, c.vcpu_count-n.ensures))
+vcpu_at-row-requires c = (c.requires.counted, omega (arith, c.loop-i-test.true, c.vcpu_count-n.ensures))
 
 pub returns-then-row-affinity : goal.returns-then-row-affinity
 returns-then-row-affinity c =

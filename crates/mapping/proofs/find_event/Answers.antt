@@ -9,7 +9,7 @@ use Rattle.mapping.proofs.Table.{Seeking, seek_start, seek_turn, seek_here, seek
 use Rattle.mapping.proofs.find_event.Goals as goal
 
 pub loop-i-init : goal.loop-i-init
-loop-i-init c = seek_start _ _ _ _ (omega (arith, c.requires, (record { devices = search rules; collections = search rules; events = search rules }).events))
+loop-i-init c = seek_start _ _ _ _ (omega (arith, c.requires, (full_of c.args.k (search rules) (search rules) (search rules)).events))
 
 pub returns-then-is_event : goal.returns-then-is_event
 returns-then-is_event c =

@@ -11,7 +11,7 @@ use Rattle.mapping.proofs.insert_event.Goals as goal
 
 pub loop-j-init : goal.loop-j-init
 loop-j-init c =
-    (insertion_start _ _ _ _ no_event (omega (arith, c.requires, (record { devices = search rules; collections = search rules; events = search rules }).events)) c.requires.2, refl)
+    (insertion_start _ _ _ _ no_event (omega (arith, c.requires, (full_of c.args.k (search rules) (search rules) (search rules)).events)) c.requires.2, refl)
 
 pub loop-j-preserved : goal.loop-j-preserved
 loop-j-preserved c =

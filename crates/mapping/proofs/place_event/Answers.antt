@@ -10,7 +10,7 @@ use Rattle.mapping.proofs.Table.{Seeking, seek_start, seek_turn, seek_here, seek
 use Rattle.mapping.proofs.place_event.Goals as goal
 
 pub loop-i-init : goal.loop-i-init
-loop-i-init c = seek_start _ _ _ _ (omega (arith, c.requires, (record { devices = search rules; collections = search rules; events = search rules }).events))
+loop-i-init c = seek_start _ _ _ _ (omega (arith, c.requires, (full_of c.args.k (search rules) (search rules) (search rules)).events))
 
 pub returns-then-key-event_key : goal.returns-then-key-event_key
 returns-then-key-event_key c =

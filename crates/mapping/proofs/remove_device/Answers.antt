@@ -11,7 +11,7 @@ use Rattle.mapping.proofs.remove_device.Goals as goal
 
 pub loop-j-init : goal.loop-j-init
 loop-j-init c =
-    (removal_start _ _ _ (omega (arith, c.requires, (record { devices = search rules; collections = search rules; events = search rules }).devices)) (omega (arith, c.requires)), refl)
+    (removal_start _ _ _ (omega (arith, c.requires, (full_of c.args.k (search rules) (search rules) (search rules)).devices)) (omega (arith, c.requires)), refl)
 
 pub loop-j-preserved : goal.loop-j-preserved
 loop-j-preserved c =

@@ -19,7 +19,7 @@ row_ok-requires c =
 
 pub returns-then-not-row_ok : goal.returns-then-not-row_ok
 returns-then-not-row_ok c =
-    test_fails _ _ _ _ c.loop-i.invariant c.loop-i-test.true c.row_ok.ensures (not-true _ c.if-not-row_ok.true)
+    test_fails _ _ _ _ c.loop-i.invariant c.loop-i-test.true c.row_ok.ensures (c.if-not-row_ok.true)
 
 pub number_at-requires : goal.number_at-requires
 number_at-requires c =
@@ -32,7 +32,7 @@ returns-then-find-i c =
 
 pub loop-i-preserved : goal.loop-i-preserved
 loop-i-preserved c =
-    test_turn _ _ _ _ c.loop-i.invariant c.loop-i-test.true c.row_ok.ensures (not-false _ c.if-not-row_ok.false)
+    test_turn _ _ _ _ c.loop-i.invariant c.loop-i-test.true c.row_ok.ensures (c.if-not-row_ok.false)
     c.number_at.ensures c.find.ensures c.if-find-i.false
 
 pub returns : goal.returns

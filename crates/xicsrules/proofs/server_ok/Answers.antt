@@ -13,12 +13,12 @@ returns-then-number-ge4294967296 c = rw (← c.number_at-number.ensures, le-ltb 
 pub returns-then-not-is_paired : goal.returns-then-not-is_paired
 unfolding server_ok
 returns-then-not-is_paired c =
-    let f : c.is_paired.result ≡ false = not-true _ c.if-not-is_paired.true in
+    let f : c.is_paired.result ≡ false = c.if-not-is_paired.true in
     rw (← c.number_at-number.ensures, lt-ltb _ _ c.if-number-ge4294967296.false, ← c.word_at-word.ensures, ← c.is_paired.ensures, f)
 
 pub returns : goal.returns
 unfolding server_ok
 returns c =
-    let f : c.is_paired.result ≡ true = not-false _ c.if-not-is_paired.false in
+    let f : c.is_paired.result ≡ true = c.if-not-is_paired.false in
     rw (← c.number_at-number.ensures, lt-ltb _ _ c.if-number-ge4294967296.false, ← c.word_at-word.ensures, ← c.is_paired.ensures, f)
     c.is_trimmed.ensures

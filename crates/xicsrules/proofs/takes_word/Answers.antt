@@ -9,11 +9,11 @@ use Rattle.xicsrules.proofs.takes_word.Goals as goal
 pub returns-then-not-is_narrow : goal.returns-then-not-is_narrow
 unfolding takes
 returns-then-not-is_narrow c =
-    let f : c.is_narrow.result ≡ false = not-true _ c.if-not-is_narrow.true in
+    let f : c.is_narrow.result ≡ false = c.if-not-is_narrow.true in
     rw (← c.is_narrow.ensures, f)
 
 pub returns : goal.returns
 unfolding takes
 returns c =
-    let f : c.is_narrow.result ≡ true = not-false _ c.if-not-is_narrow.false in
+    let f : c.is_narrow.result ≡ true = c.if-not-is_narrow.false in
     rw (← c.is_narrow.ensures, f, ← c.server_of.ensures) c.is_registered.ensures

@@ -43,7 +43,7 @@ returns-then-not-has_places c =
       count,
       ne_eqb _ _ c.if-g-eq0.false,
       eq-eqb _ _ c.if-g-ne1.false,
-      sym c.has_places.ensures ∙ not-true _ c.if-not-has_places.true,
+      sym c.has_places.ensures ∙ c.if-not-has_places.true,
     )
     (refusing c.requires.held c.refused-then-not-has_places.ensures)
 
@@ -56,6 +56,6 @@ returns c =
       count,
       ne_eqb _ _ c.if-g-eq0.false,
       eq-eqb _ _ c.if-g-ne1.false,
-      sym c.has_places.ensures ∙ not-false _ c.if-not-has_places.false,
+      sym c.has_places.ensures ∙ c.if-not-has_places.false,
     )
     (accepting c.requires.held refl refl refl)

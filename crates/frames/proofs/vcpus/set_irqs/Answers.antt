@@ -22,7 +22,7 @@ returns-then-not-irqs_ok c =
     rw (
       eq-eqb _ _ c.if-attribute-ne-COUNT.false,
       eq-eqb _ _ c.if-width-ne-COUNT_BYTES.false,
-      sym c.irqs_ok.ensures ∙ not-true _ c.if-not-irqs_ok.true,
+      sym c.irqs_ok.ensures ∙ c.if-not-irqs_ok.true,
     )
     (refusing c.requires.held c.refused-then-not-irqs_ok.ensures)
 
@@ -32,7 +32,7 @@ returns-then-g-eq1 c =
     rw (
       eq-eqb _ _ c.if-attribute-ne-COUNT.false,
       eq-eqb _ _ c.if-width-ne-COUNT_BYTES.false,
-      sym c.irqs_ok.ensures ∙ not-false _ c.if-not-irqs_ok.false,
+      sym c.irqs_ok.ensures ∙ c.if-not-irqs_ok.false,
       eq-eqb _ _ c.if-g-eq1.true,
     )
     (refusing c.requires.held c.refused-then-g-eq1.ensures)
@@ -43,14 +43,14 @@ returns-then-g-eq1-2 c =
     rw (
       eq-eqb _ _ c.if-attribute-ne-COUNT.false,
       eq-eqb _ _ c.if-width-ne-COUNT_BYTES.false,
-      sym c.irqs_ok.ensures ∙ not-false _ c.if-not-irqs_ok.false,
+      sym c.irqs_ok.ensures ∙ c.if-not-irqs_ok.false,
       ne_eqb _ _ c.if-g-eq1.false,
       eq-eqb _ _ c.if-g-eq1-2.true,
     )
     (refusing c.requires.held c.refused-then-g-eq1-2.ensures)
 
 pub fresh_banks-banks-requires : goal.fresh_banks-banks-requires
-fresh_banks-banks-requires c = sym c.irqs_ok.ensures ∙ not-false _ c.if-not-irqs_ok.false
+fresh_banks-banks-requires c = sym c.irqs_ok.ensures ∙ c.if-not-irqs_ok.false
 
 pub returns : goal.returns
 unfolding set_irqs
@@ -59,8 +59,7 @@ returns c =
     rw (
       eq-eqb _ _ c.if-attribute-ne-COUNT.false,
       eq-eqb _ _ c.if-width-ne-COUNT_BYTES.false,
-      sym c.irqs_ok.ensures ∙ not-false _
-          c.if-not-irqs_ok.false,
+      sym c.irqs_ok.ensures ∙ c.if-not-irqs_ok.false,
       ne_eqb _ _ c.if-g-eq1.false,
       ne_eqb _ _ c.if-g-eq1-2.false,
     )

@@ -7,4 +7,4 @@ use Rattle.irqs.proofs.calls.good_spot.Goals as goal
 pub returns : goal.returns
 returns c =
     let m = view c.args.g in
-    (c.spot_of_lem.ensures, rw c.spot_of_lem.ensures (spot_stands m c.args.vcpu c.args.intid (fault_vcpu c.args.vcpu c.args.intid m c.requires.1)))
+    record { is = c.spot_of.ensures; stands = rw c.spot_of.ensures (spot_stands m c.args.vcpu c.args.intid (fault_vcpu c.args.vcpu c.args.intid m c.requires.1)) }

@@ -30,5 +30,5 @@ returns c =
     let p = c.good_spot-spot in
     let b = c.bank_of-b in
     line_done c.args.vcpu c.args.intid (view c.args.g) f.result f.ensures c.args.level c.stored.result
-    p.result b.result c.lined.result c.if-e-ne0.false c.if-level-gt1.false c.if-intid-lt16.false p.ensures.0 b.ensures
+    p.result b.result c.lined.result c.if-e-ne0.false c.if-level-gt1.false c.if-intid-lt16.false p.ensures.is b.ensures
     (c.lined.ensures ∙ ap (λ (i : ℕ). lined i c.args.level b.result) c.bit_of.ensures) c.stored.ensures

@@ -16,4 +16,4 @@ returns c =
     let b = c.bank_of-b in
     let i = c.bit_of in
     c.told-2.ensures ∙ rw c.pending.ensures
-    (sym (pending_told c.args.vcpu c.args.intid (view c.args.g) f.result f.ensures p.result b.result i.result c.if-e-ne0.false p.ensures.0 b.ensures i.ensures))
+    (sym (pending_told c.args.vcpu c.args.intid (view c.args.g) f.result f.ensures p.result b.result i.result c.if-e-ne0.false p.ensures.is b.ensures i.ensures))

@@ -20,5 +20,5 @@ returns c =
     let f = c.irq_fault-e in
     let b = c.bank_of-b in
     change_done c.args.vcpu c.args.intid (view c.args.g) f.result f.ensures (raised (c.args.intid % 32)) c.stored.result
-    c.good_spot-spot.result b.result c.raised.result c.if-e-ne0.false c.good_spot-spot.ensures.0 b.ensures
+    c.good_spot-spot.result b.result c.raised.result c.if-e-ne0.false c.good_spot-spot.ensures.is b.ensures
     (c.raised.ensures ∙ ap (λ (i : ℕ). raised i b.result) c.bit_of.ensures) c.stored.ensures

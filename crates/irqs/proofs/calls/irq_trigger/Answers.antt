@@ -24,7 +24,7 @@ returns c =
     let p = c.good_spot-spot in
     let b = c.bank_of-b in
     let m = view c.args.g in
-    let t = c.trigger_word.ensures ∙ ap (λ (x : Spot). trigger_word x c.args.word) p.ensures.0 in
+    let t = c.trigger_word.ensures ∙ ap (λ (x : Spot). trigger_word x c.args.word) p.ensures.is in
     change_done c.args.vcpu c.args.intid m f.result f.ensures (with_trigger (trigger_word (spot_of c.args.vcpu c.args.intid m) c.args.word)) c.stored.result
-    p.result b.result c.with_trigger.result c.if-e-ne0.false p.ensures.0 b.ensures
+    p.result b.result c.with_trigger.result c.if-e-ne0.false p.ensures.is b.ensures
     (c.with_trigger.ensures ∙ ap (λ (w : ℕ). with_trigger w b.result) t) c.stored.ensures

@@ -10,7 +10,7 @@ returns-then-e-ne0 c =
     let r = c.distributor_register-register in
     let f = c.register_fault-e in
     c.told.ensures ∙ sym (get1_refused c.args.attribute c.args.width (view c.args.g) r.result f.result
-    (r.ensures.0 ∙ ap distributor_register c.offset_of.ensures) f.ensures c.if-e-ne0.true)
+    (r.ensures.is ∙ ap distributor_register c.offset_of.ensures) f.ensures c.if-e-ne0.true)
 
 pub returns : goal.returns
 returns c =
@@ -18,7 +18,7 @@ returns c =
     let f = c.register_fault-e in
     rw (
       get1_told c.args.attribute c.args.width (view c.args.g) r.result f.result
-          (r.ensures.0 ∙ ap distributor_register c.offset_of.ensures) f.ensures c.if-e-ne0.false,
+          (r.ensures.is ∙ ap distributor_register c.offset_of.ensures) f.ensures c.if-e-ne0.false,
       ← c.distributor_read.ensures,
     )
     c.told-2.ensures

@@ -12,7 +12,7 @@ returns-then-e-ne0 c =
     let f = c.register_fault-e in
     does_refuse c.args.g c.refused.result f.result c.requires c.refused.ensures
     (set1_refused c.args.attribute c.args.width (view c.args.g) r.result f.result
-    (r.ensures.0 ∙ ap distributor_register c.offset_of.ensures) f.ensures c.args.value c.if-e-ne0.true)
+    (r.ensures.is ∙ ap distributor_register c.offset_of.ensures) f.ensures c.args.value c.if-e-ne0.true)
 
 pub returns : goal.returns
 returns c =
@@ -20,5 +20,5 @@ returns c =
     let f = c.register_fault-e in
     let w = c.distributor_write in
     rw (set1_done c.args.attribute c.args.width (view c.args.g) r.result f.result
-    (r.ensures.0 ∙ ap distributor_register c.offset_of.ensures) f.ensures c.args.value c.if-e-ne0.false)
+    (r.ensures.is ∙ ap distributor_register c.offset_of.ensures) f.ensures c.args.value c.if-e-ne0.false)
     (does_accept w.result c.accepted.result _ w.ensures c.accepted.ensures)

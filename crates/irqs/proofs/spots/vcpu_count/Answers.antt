@@ -1,3 +1,4 @@
+use borrow.Author.Rules.{rules}
 use mathlib.Core.Path.{◌≡◌, sym}
 use lib.ListN.{length, length-map}
 use Rattle.irqs.proofs.SpotLaws.{vcpus_count}
