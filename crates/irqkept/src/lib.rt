@@ -1,3 +1,2 @@
 // Laws: the calls on interrupts keep the rules.
 #![tactic(auto)]
-

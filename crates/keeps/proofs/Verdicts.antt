@@ -7,7 +7,7 @@ use mathlib.Core.Bool.{Bool, true, false, ◌||◌, not}
 use mathlib.Core.List.{List}
 use lib.ListN.{length, drop}
 use lib.Dec.{ltb, leb, eqb}
-use borrow.Author.Tests.{lt-ltb, le-leb, eq-eqb, ne_eqb, eqb-true, not-true, not-false}
+use borrow.Author.Tests.{lt-ltb, le-leb, eq-eqb, ne_eqb, eqb-true}
 use Rattle.lists.specs.Rows.{choose, all}
 use Rattle.fields.specs.Field.{get_field}
 use Rattle.areas.specs.Area.{apart, ends_by, inside, overlaps}
@@ -29,11 +29,11 @@ use Rattle.areas.proofs.Tests.{refuted}
 use Rattle.rules.proofs.Parts.{frames_parts, init_parts, init_whole, tables_parts, its_parts, its_whole, rules_parts}
 
 -- what a call said of a test, where its answer led on or back
-pub passed : {b t : Bool} → b ≡ t → not b ≡ false → t ≡ true
-passed {b} e h = sym e ∙ not-false b h
+pub passed : {b t : Bool} → b ≡ t → b ≡ true → t ≡ true
+passed e h = sym e ∙ h
 
-pub failed : {b t : Bool} → b ≡ t → not b ≡ true → t ≡ false
-failed {b} e h = sym e ∙ not-true b h
+pub failed : {b t : Bool} → b ≡ t → b ≡ false → t ≡ false
+failed e h = sym e ∙ h
 
 pub memory_last : (m : Memory) (end : ℕ) {b : Bool} → 36 ≤ m.width → m.width ≤ 52 → m.start % 4096 ≡ 0 → m.length % 4096 ≡ 0 → 4096 ≤ m.length
     → m.length ≤ 1073741824 → end ≡ 2 ^ m.width → b ≡ ends_by end (memory_area m) → b ≡ memory_ok m

@@ -1,3 +1,2 @@
 // Every call on VCPUs and frames keeps the rules of a sound guest: laws, no code.
 #![tactic(auto)]
-

@@ -29,11 +29,11 @@ use Rattle.its.specs.Forms.{is_formed, is_lpi}
 use Rattle.mapkept.proofs.Rising.{find_row}
 
 -- what a call said of a test, where its answer led on or back
-pub passed : {b t : Bool} → b ≡ t → not b ≡ false → t ≡ true
-passed {b} e h = sym e ∙ not-false b h
+pub passed : {b t : Bool} → b ≡ t → b ≡ true → t ≡ true
+passed e h = sym e ∙ h
 
-pub failed : {b t : Bool} → b ≡ t → not b ≡ true → t ≡ false
-failed {b} e h = sym e ∙ not-true b h
+pub failed : {b t : Bool} → b ≡ t → b ≡ false → t ≡ false
+failed e h = sym e ∙ h
 
 -- two tests that say the same of each row
 all_same : {A : Type 0} (p q : A → Bool) → ((x : A) → p x ≡ q x) → (l : List A) → all p l ≡ all q l

@@ -1,3 +1,2 @@
 // Laws: the mapping commands keep the rules.
 #![tactic(auto)]
-

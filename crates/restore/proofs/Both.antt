@@ -34,6 +34,10 @@ next_small false t i = refl
 
 module _ (device : Bool) (t : List ℕ) where
   -- what the code has read of an entry
+  valid_read : (i w : ℕ) (b : Bool) → w ≡ entry_at t i → b ≡ valid_of device w → (slots_of device t).valid i ≡ b
+  unfolding slots_of
+  valid_read i w b e f = cc
+
   next_read : (i w d : ℕ) → w ≡ entry_at t i → d ≡ next_of device w → d ≡ (slots_of device t).next i
   unfolding slots_of
   next_read i w d e f = cc
@@ -45,20 +49,20 @@ module _ (device : Bool) (t : List ℕ) where
     pub same : first_from (slots_of device t) i ≡ first_from (slots_of device t) from
 
   module _ (from n i : ℕ) (v : Seeking from n i) where
-    pub seek_here : i < n → (b : Bool) → b ≡ valid_of device (entry_at t i) → b ≡ true → i ≡ first_from (slots_of device t) from
+    pub seek_here : i < n → (w : ℕ) (b : Bool) → w ≡ entry_at t i → b ≡ valid_of device w → b ≡ true → i ≡ first_from (slots_of device t) from
     unfolding slots_of
-    seek_here h b e g =
+    seek_here h w b e f g =
         let s = v.size in
-        sym (first_hit (slots_of device t) i (omega arith) (sym e ∙ g)) ∙ v.same
+        sym (first_hit (slots_of device t) i (omega arith) (valid_read i w b e f ∙ g)) ∙ v.same
 
-    pub seek_turn : i < n → (b : Bool) → b ≡ valid_of device (entry_at t i) → b ≡ false → Seeking from n (i + 1)
+    pub seek_turn : i < n → (w : ℕ) (b : Bool) → w ≡ entry_at t i → b ≡ valid_of device w → b ≡ false → Seeking from n (i + 1)
     unfolding slots_of
-    seek_turn h b e g =
+    seek_turn h w b e f g =
         let s = v.size in
         record {
           size = s;
           end = omega arith;
-          same = sym (first_miss (slots_of device t) i (omega arith) (sym e ∙ g)) ∙ v.same;
+          same = sym (first_miss (slots_of device t) i (omega arith) (valid_read i w b e f ∙ g)) ∙ v.same;
         }
 
     pub seek_end : n ≤ i → n ≡ first_from (slots_of device t) from
@@ -80,16 +84,16 @@ module _ (device : Bool) (t : List ℕ) where
       leads_out h = way_out (slots_of device t) i d (next_read i w d e f) n h
 
       module _ (h : i + d < length t / 8) where
-        module _ (c : exact (cap_of device) d ≡ true) (b : Bool) (p : b ≡ valid_of device (entry_at t (i + d))) where
+        module _ (c : exact (cap_of device) d ≡ true) (x : ℕ) (b : Bool) (p : x ≡ entry_at t (i + d)) (q : b ≡ valid_of device x) where
           pub leads_near : b ≡ true → At (i + d) ≡ following (slots_of device t) i
           unfolding slots_of
           leads_near y =
-              rw (sym p ∙ y) at (way_near (slots_of device t) i d (next_read i w d e f) n h c)
+              rw (valid_read (i + d) x b p q ∙ y) at (way_near (slots_of device t) i d (next_read i w d e f) n h c)
 
           pub leads_blank : b ≡ false → Bad ≡ following (slots_of device t) i
           unfolding slots_of
           leads_blank y =
-              rw (sym p ∙ y) at (way_near (slots_of device t) i d (next_read i w d e f) n h c)
+              rw (valid_read (i + d) x b p q ∙ y) at (way_near (slots_of device t) i d (next_read i w d e f) n h c)
 
         module _ (c : exact (cap_of device) d ≡ false) (k : ℕ) (p : k ≡ first_from (slots_of device t) (i + d)) where
           pub leads_far : k < length t / 8 → At k ≡ following (slots_of device t) i

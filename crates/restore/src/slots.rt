@@ -21,16 +21,14 @@ pub fn entry_at(t: &[u8], i: usize) -> u64
     words::get64(t, i * ENTRY)
 }
 
-// Whether the entry at `i` is there: a device's by the byte that holds its V (§6.2), before any other of its bytes is read; an event's by its
-// LPI (§6.4), which its word holds.
-fn there(device: bool, t: &[u8], i: usize) -> bool
-    requires { i < length t.now / 8 }
-    ensures { result ≡ valid_of device (entry_at t.now i) }
+// Whether an entry is there: a device's by its V bit, an event's by its LPI.
+fn valid_of(device: bool, w: u64) -> bool
+    ensures { result ≡ valid_of device w }
 {
     if device {
-        return vbyte::device_there(t, i);
+        return entries::device_valid(w);
     }
-    entries::event_valid(entry_at(t, i))
+    entries::event_valid(w)
 }
 
 // The distance that an entry names.
@@ -63,7 +61,7 @@ pub fn first_from(device: bool, t: &[u8], from: usize) -> usize
     let n = t.len() / ENTRY;
     let mut i = from;
     while i < n {
-        if there(device, t, i) {
+        if valid_of(device, entry_at(t, i)) {
             return i;
         }
         i += 1;
@@ -88,7 +86,7 @@ pub fn follow(device: bool, t: &[u8], i: usize) -> Next
     let j = i + d;
     if is_exact(device, next) {
         // §9.6: a blank there is a fault.
-        if there(device, t, j) {
+        if valid_of(device, entry_at(t, j)) {
             return Next::At(j);
         }
         return Next::Bad;

@@ -1,3 +1,2 @@
 // The tables of the ITS as bytes in guest memory: definitions and their laws.
 #![tactic(auto)]
-

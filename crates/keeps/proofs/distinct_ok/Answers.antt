@@ -19,7 +19,7 @@ pub vcpu_at-row-requires : goal.vcpu_at-row-requires
 vcpu_at-row-requires c = (c.requires, omega (arith, c.loop-i-test.true, c.vcpu_count-n.ensures))
 
 pub taken_from-requires : goal.taken_from-requires
-taken_from-requires c = (c.requires, omega (arith, c.loop-i-test.true, c.vcpu_count-n.ensures))
+taken_from-requires c = record { counted = c.requires; from_in_bounds = omega (arith, c.loop-i-test.true, c.vcpu_count-n.ensures) }
 
 pub returns-then-taken_from : goal.returns-then-taken_from
 returns-then-taken_from c =

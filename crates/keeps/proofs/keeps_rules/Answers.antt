@@ -24,14 +24,14 @@ pub limit-requires : goal.limit-requires
 limit-requires c = (memory_parts _ (passed c.memory_ok.ensures c.if-not-memory_ok.false)).narrow
 
 pub frames_ok-requires : goal.frames_ok-requires
-frames_ok-requires c = (
-  c.requires,
-  (
+frames_ok-requires c = record {
+  counted = c.requires;
+  end_value = (
     c.limit.ensures ∙ ap (λ (x : Memory). 2 ^ x.width) (memory_read _ c.load_memory-memory.ensures),
     ap (λ (x : Control). x.init) (control_read _ c.load_control-control.ensures),
     frames_read _ c.load_frames-frames.ensures,
-  ),
-)
+  );
+}
 
 pub returns-then-not-frames_ok : goal.returns-then-not-frames_ok
 returns-then-not-frames_ok c =
@@ -39,8 +39,10 @@ returns-then-not-frames_ok c =
     (failed c.frames_ok.ensures c.if-not-frames_ok.true))
 
 pub init_ok-requires : goal.init_ok-requires
-init_ok-requires c =
-    (c.requires, (ap (λ (x : Control). x.init) (control_read _ c.load_control-control.ensures), frames_read _ c.load_frames-frames.ensures))
+init_ok-requires c = record {
+  counted = c.requires;
+  init_value = (ap (λ (x : Control). x.init) (control_read _ c.load_control-control.ensures), frames_read _ c.load_frames-frames.ensures);
+}
 
 pub returns-then-not-init_ok : goal.returns-then-not-init_ok
 returns-then-not-init_ok c =
@@ -60,7 +62,7 @@ returns-then-not-last_ok c =
 pub untouched-requires : goal.untouched-requires
 untouched-requires c =
     let k = control_read _ c.load_control-control.ensures in
-    (c.requires, (ap (λ (x : Control). x.init) k, ap (λ (x : Control). x.status) k))
+    record { counted = c.requires; init_value = (ap (λ (x : Control). x.init) k, ap (λ (x : Control). x.status) k) }
 
 pub returns-then-not-untouched : goal.returns-then-not-untouched
 returns-then-not-untouched c =
@@ -72,8 +74,10 @@ returns-then-its-control c =
     refuted _ (λ e. omega (arith, (rules_hold _ _ _ _ c.load_memory-memory.ensures c.load_control-control.ensures c.load_frames-frames.ensures e).its, c.if-its-control.true))
 
 pub tables_ok-requires : goal.tables_ok-requires
-tables_ok-requires c =
-    (c.requires, (memory_read _ c.load_memory-memory.ensures, ap (λ (x : Control). x.itsinit) (control_read _ c.load_control-control.ensures)))
+tables_ok-requires c = record {
+  counted = c.requires;
+  m_value = (memory_read _ c.load_memory-memory.ensures, ap (λ (x : Control). x.itsinit) (control_read _ c.load_control-control.ensures));
+}
 
 pub returns : goal.returns
 returns c =

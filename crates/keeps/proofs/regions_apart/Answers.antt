@@ -25,7 +25,7 @@ pub overflow_mul-a : goal.overflow_mul-a
 overflow_mul-a c = omega (arith, count_small _ _ c.region_count-n.ensures _ _ c.region_at-row.ensures c.loop-i-test.true c.requires.1)
 
 pub region_struck-requires : goal.region_struck-requires
-region_struck-requires c = (c.requires, omega (arith, c.loop-i-test.true, c.region_count-n.ensures))
+region_struck-requires c = record { counted = c.requires; from_in_bounds = omega (arith, c.loop-i-test.true, c.region_count-n.ensures) }
 
 pub returns-then-region_struck : goal.returns-then-region_struck
 returns-then-region_struck c =

@@ -1,0 +1,16 @@
+use Prim.Native.Nat.{ℕ, ◌*◌, ◌-◌}
+use mathlib.Core.Path.{◌∙◌, sym, ap}
+use mathlib.Core.List.{List}
+use lib.ListN.{take, drop, length-replicate}
+use lib.Seq.{drop-drop}
+use Rattle.words.proofs.Rows.{Loading, load_start, load_turn, load_end}
+use Rattle.mapping.specs.Mapped.{no_device}
+use Rattle.maplayout.specs.MapLayout.{device_of}
+use borrow.Author.Rules.{rules}
+use Rattle.maplayout.proofs.load_devices.Given as goal
+
+abbrev pub invariant-loop-i : goal.invariant-loop-i
+invariant-loop-i l = Loading device_of 24 l.n 32 (drop 2376 l.s) no_device l.a l.i
+
+abbrev pub decreases-loop-i : goal.decreases-loop-i
+decreases-loop-i l = l.n - l.i
