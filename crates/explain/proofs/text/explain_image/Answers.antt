@@ -2,7 +2,6 @@
 use native.Mathlib.Omega.{arith}
 use mathlib.Core.Path.{sym, ◌∙◌}
 use borrow.Author.Rules.{rules}
-use borrow.Author.Tests.{not-true, not-false}
 use Rattle.image.proofs.Stored.{restorable}
 use Rattle.image.proofs.Text.{starts}
 use Rattle.explain.proofs.Whole.{explained_no_image, explained_found, explained_fault}

@@ -1,7 +1,6 @@
 -- `explain::text::put_early` meets its contract. Assumes nothing.
 use native.Mathlib.Omega.{arith}
 use mathlib.Core.Path.{refl}
-use borrow.Author.Rules.{rules}
 use Rattle.lines.proofs.Laws.{adds_as, adds_both}
 use Rattle.explain.specs.Explained.{early}
 use Rattle.explain.proofs.text.put_early.Goals as goal

@@ -1,7 +1,6 @@
 -- `explain::text::put_fault` meets its contract. Assumes nothing.
 use native.Mathlib.Omega.{arith}
 use mathlib.Core.Path.{ap, ◌∙◌}
-use borrow.Author.Rules.{rules}
 use Rattle.lines.proofs.Laws.{adds_as, adds_both}
 use Rattle.naming.specs.Naming.{fault_of}
 use Rattle.naming.proofs.Codes.{fault_of_code}

@@ -1,7 +1,6 @@
 -- `explain::text::put_refused` meets its contract. Assumes nothing.
 use native.Mathlib.Omega.{arith}
 use mathlib.Core.List.{◌++◌, append_assoc}
-use borrow.Author.Rules.{rules}
 use Rattle.lines.specs.Text.{ascii, decimal}
 use Rattle.lines.proofs.Laws.{adds_as, adds_both}
 use Rattle.explain.proofs.text.put_refused.Goals as goal

@@ -1,7 +1,6 @@
 -- `show::text::put_refusal` meets its contract. Assumes nothing.
 use native.Mathlib.Omega.{arith}
 use mathlib.Core.Path.{refl}
-use borrow.Author.Rules.{rules}
 use Rattle.lines.proofs.Laws.{adds_as}
 use Rattle.show.specs.Shown.{refusal}
 use Rattle.show.proofs.text.put_refusal.Goals as goal

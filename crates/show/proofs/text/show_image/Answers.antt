@@ -1,7 +1,6 @@
 -- `show::text::show_image` meets its contract. Assumes nothing.
 use mathlib.Core.Path.{sym, ◌∙◌}
 use borrow.Author.Rules.{rules}
-use borrow.Author.Tests.{not-true, not-false}
 use Rattle.image.proofs.Stored.{restorable}
 use Rattle.image.proofs.Text.{starts}
 use Rattle.show.proofs.Whole.{shown_no_image, shown_fault, loadable, shown_rows}
