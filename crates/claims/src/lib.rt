@@ -1,3 +1,2 @@
 // The claims over every public call: definitions and theorems.
 #![tactic(auto)]
-

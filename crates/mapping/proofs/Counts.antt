@@ -3,17 +3,13 @@ use Prim.Native.Nat.{ℕ, ◌≤◌, ◌<◌}
 use mathlib.Core.Path.{◌≡◌}
 use mathlib.Core.Bool.{Bool, true, false}
 use mathlib.Core.List.{List}
-use lib.ListN.{length, get_or, take, length-map}
+use lib.ListN.{length, get_or, take}
 use lib.Seq.{get_or-take, length-take-le}
 use lib.Dec.{ltb}
 use borrow.Author.Tests.{lt-ltb, le-ltb, ltb-true}
-use denote.RattleType.{Valss, owns}
-use denote.Shadow.{shadow}
-use denote.Struct.Declared.{shape}
 use Rattle.lists.specs.Rows.{find_ix}
 use Rattle.mapping.specs.declared.Mapping.{Mapping}
 use Rattle.mapping.specs.Mapped.{Within, rows}
-use Rattle.mapping.specs.contracts.Mapping.{the_type}
 
 -- the arrays are whole, which is a fact of their types
 pub record Full (k : Mapping) : Type 0 where

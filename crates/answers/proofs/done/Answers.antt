@@ -1,7 +1,6 @@
 -- `answers::done` meets its contract. Assumes nothing.
 use mir.Syntax.{w64}
 use mir.Facts.{to_z_pos}
-use borrow.Author.Rules.{rules}
 use Rattle.answers.proofs.done.Goals as goal
 
 pub returns : goal.returns

@@ -1,7 +1,6 @@
 -- `answers::refuse` meets its contract. Assumes nothing.
 use native.Mathlib.Omega.{arith}
 use Rattle.answers.proofs.Negated.{neg_fits, neg_back}
-use borrow.Author.Rules.{rules}
 use Rattle.answers.proofs.refuse.Goals as goal
 
 pub overflow_sub-result : goal.overflow_sub-result

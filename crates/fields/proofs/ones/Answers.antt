@@ -2,7 +2,6 @@
 use mathlib.Core.Path.{◌≡◌}
 use Prim.Native.Nat.{◌+◌, ◌-◌, ◌/◌, ◌^◌}
 use native.Mathlib.Omega.{arith}
-use borrow.Author.Rules.{rules}
 use lib.Pow.{suc_ones}
 use Rattle.fields.proofs.Masks.{ones_shr}
 use Rattle.fields.proofs.ones.Goals as goal

@@ -1,12 +1,8 @@
 -- `mapping::find_device` meets its contract. Assumes nothing.
 use Prim.Native.Nat.{◌-◌}
-use native.Mathlib.Omega.{arith}
 use lib.Dec.{eqb}
-use borrow.Author.Rules.{rules}
-use borrow.Author.Tests.{eq-eqb, ne_eqb}
 use Rattle.mapping.specs.Mapped.{device_key, no_device}
-use Rattle.mapping.proofs.Counts.{full_of}
-use Rattle.mapping.proofs.Table.{Seeking, seek_start, seek_turn, seek_here, seek_end}
+use Rattle.mapping.proofs.Table.{Seeking}
 use Rattle.mapping.proofs.find_device.Given as goal
 
 abbrev pub invariant-loop-i : goal.invariant-loop-i

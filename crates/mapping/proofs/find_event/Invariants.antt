@@ -1,11 +1,7 @@
 -- `mapping::find_event` meets its contract. Assumes nothing.
 use Prim.Native.Nat.{◌-◌}
-use native.Mathlib.Omega.{arith}
-use mathlib.Core.Path.{sym, ◌∙◌}
-use borrow.Author.Rules.{rules}
 use Rattle.mapping.specs.Mapped.{is_event, no_event}
-use Rattle.mapping.proofs.Counts.{full_of}
-use Rattle.mapping.proofs.Table.{Seeking, seek_start, seek_turn, seek_here, seek_end}
+use Rattle.mapping.proofs.Table.{Seeking}
 use Rattle.mapping.proofs.find_event.Given as goal
 
 abbrev pub invariant-loop-i : goal.invariant-loop-i

@@ -1,12 +1,9 @@
 -- `mapping::find_named` meets its contract. Assumes nothing.
-use Prim.Native.Nat.{◌-◌}
 use native.Mathlib.Omega.{arith}
 use borrow.Author.Rules.{rules}
 use borrow.Author.Tests.{eq-eqb, ne_eqb}
-use Rattle.mapping.specs.Mapped.{no_event}
-use Rattle.mapping.specs.Commands.{names}
 use Rattle.mapping.proofs.Counts.{full_of}
-use Rattle.mapping.proofs.Table.{Seeking, seek_start, seek_turn, seek_here, seek_end}
+use Rattle.mapping.proofs.Table.{seek_start, seek_turn, seek_here, seek_end}
 use Rattle.mapping.proofs.find_named.Goals as goal
 
 pub loop-i-init : goal.loop-i-init

@@ -1,12 +1,11 @@
 -- `mapping::insert_collection` meets its contract. Assumes nothing.
-use Prim.Native.Nat.{◌+◌, ◌-◌}
 use native.Mathlib.Omega.{arith}
 use mathlib.Core.Path.{refl}
 use borrow.Author.Rules.{rules}
 use Rattle.mapping.specs.Mapped.{no_collection}
 use Rattle.mapping.proofs.Counts.{full_of}
-use Rattle.mapping.proofs.Table.{Insertion, insertion_start, insertion_turn, insertion_end}
-use Rattle.mapping.proofs.Replace.{SameCollections, collections_turn, collections_end}
+use Rattle.mapping.proofs.Table.{insertion_start, insertion_turn, insertion_end}
+use Rattle.mapping.proofs.Replace.{collections_turn, collections_end}
 use Rattle.mapping.proofs.insert_collection.Goals as goal
 
 pub loop-j-init : goal.loop-j-init

@@ -1,12 +1,8 @@
 -- `mapping::insert_device` meets its contract. Assumes nothing.
 use Prim.Native.Nat.{◌+◌, ◌-◌}
-use native.Mathlib.Omega.{arith}
-use mathlib.Core.Path.{refl}
-use borrow.Author.Rules.{rules}
 use Rattle.mapping.specs.Mapped.{no_device}
-use Rattle.mapping.proofs.Counts.{full_of}
-use Rattle.mapping.proofs.Table.{Insertion, insertion_start, insertion_turn, insertion_end}
-use Rattle.mapping.proofs.Replace.{SameDevices, devices_turn, devices_end}
+use Rattle.mapping.proofs.Table.{Insertion}
+use Rattle.mapping.proofs.Replace.{SameDevices}
 use Rattle.mapping.proofs.insert_device.Given as goal
 
 abbrev pub invariant-loop-j : goal.invariant-loop-j

@@ -1,12 +1,11 @@
 -- `mapping::insert_event` meets its contract. Assumes nothing.
-use Prim.Native.Nat.{◌+◌, ◌-◌}
 use native.Mathlib.Omega.{arith}
 use mathlib.Core.Path.{refl}
 use borrow.Author.Rules.{rules}
 use Rattle.mapping.specs.Mapped.{no_event}
 use Rattle.mapping.proofs.Counts.{full_of}
-use Rattle.mapping.proofs.Table.{Insertion, insertion_start, insertion_turn, insertion_end}
-use Rattle.mapping.proofs.Replace.{SameEvents, events_turn, events_end}
+use Rattle.mapping.proofs.Table.{insertion_start, insertion_turn, insertion_end}
+use Rattle.mapping.proofs.Replace.{events_turn, events_end}
 use Rattle.mapping.proofs.insert_event.Goals as goal
 
 pub loop-j-init : goal.loop-j-init

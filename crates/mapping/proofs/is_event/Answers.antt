@@ -1,5 +1,4 @@
 -- `mapping::is_event` meets its contract. Assumes nothing.
-use borrow.Author.Rules.{rules}
 use borrow.Author.Tests.{eq-eqb, ne_eqb}
 use Rattle.mapping.proofs.is_event.Goals as goal
 

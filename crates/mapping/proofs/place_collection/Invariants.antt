@@ -1,12 +1,8 @@
 -- `mapping::place_collection` meets its contract. Assumes nothing.
 use Prim.Native.Nat.{◌-◌}
-use native.Mathlib.Omega.{arith}
 use lib.Dec.{leb}
-use borrow.Author.Rules.{rules}
-use borrow.Author.Tests.{le-leb, lt-leb}
 use Rattle.mapping.specs.Mapped.{collection_key, no_collection}
-use Rattle.mapping.proofs.Counts.{full_of}
-use Rattle.mapping.proofs.Table.{Seeking, seek_start, seek_turn, seek_here, seek_end}
+use Rattle.mapping.proofs.Table.{Seeking}
 use Rattle.mapping.proofs.place_collection.Given as goal
 
 abbrev pub invariant-loop-i : goal.invariant-loop-i

@@ -1,12 +1,9 @@
 -- `mapping::place_device` meets its contract. Assumes nothing.
-use Prim.Native.Nat.{◌-◌}
 use native.Mathlib.Omega.{arith}
-use lib.Dec.{leb}
 use borrow.Author.Rules.{rules}
 use borrow.Author.Tests.{le-leb, lt-leb}
-use Rattle.mapping.specs.Mapped.{device_key, no_device}
 use Rattle.mapping.proofs.Counts.{full_of}
-use Rattle.mapping.proofs.Table.{Seeking, seek_start, seek_turn, seek_here, seek_end}
+use Rattle.mapping.proofs.Table.{seek_start, seek_turn, seek_here, seek_end}
 use Rattle.mapping.proofs.place_device.Goals as goal
 
 pub loop-i-init : goal.loop-i-init

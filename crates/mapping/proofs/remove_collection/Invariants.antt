@@ -1,12 +1,7 @@
 -- `mapping::remove_collection` meets its contract. Assumes nothing.
 use Prim.Native.Nat.{◌-◌}
-use native.Mathlib.Omega.{arith}
-use mathlib.Core.Path.{refl}
-use borrow.Author.Rules.{rules}
-use Rattle.mapping.specs.Mapped.{no_collection}
-use Rattle.mapping.proofs.Counts.{full_of}
-use Rattle.mapping.proofs.Table.{Removal, removal_start, removal_turn, removal_end}
-use Rattle.mapping.proofs.Replace.{SameCollections, collections_turn, collections_end}
+use Rattle.mapping.proofs.Table.{Removal}
+use Rattle.mapping.proofs.Replace.{SameCollections}
 use Rattle.mapping.proofs.remove_collection.Given as goal
 
 abbrev pub invariant-loop-j : goal.invariant-loop-j

@@ -1,12 +1,11 @@
 -- `mapping::remove_device` meets its contract. Assumes nothing.
-use Prim.Native.Nat.{◌-◌}
 use native.Mathlib.Omega.{arith}
 use mathlib.Core.Path.{refl}
 use borrow.Author.Rules.{rules}
 use Rattle.mapping.specs.Mapped.{no_device}
 use Rattle.mapping.proofs.Counts.{full_of}
-use Rattle.mapping.proofs.Table.{Removal, removal_start, removal_turn, removal_end}
-use Rattle.mapping.proofs.Replace.{SameDevices, devices_turn, devices_end}
+use Rattle.mapping.proofs.Table.{removal_start, removal_turn, removal_end}
+use Rattle.mapping.proofs.Replace.{devices_turn, devices_end}
 use Rattle.mapping.proofs.remove_device.Goals as goal
 
 pub loop-j-init : goal.loop-j-init

@@ -1,12 +1,11 @@
 -- `mapping::remove_event` meets its contract. Assumes nothing.
-use Prim.Native.Nat.{◌-◌}
 use native.Mathlib.Omega.{arith}
 use mathlib.Core.Path.{refl}
 use borrow.Author.Rules.{rules}
 use Rattle.mapping.specs.Mapped.{no_event}
 use Rattle.mapping.proofs.Counts.{full_of}
-use Rattle.mapping.proofs.Table.{Removal, removal_start, removal_turn, removal_end}
-use Rattle.mapping.proofs.Replace.{SameEvents, events_turn, events_end}
+use Rattle.mapping.proofs.Table.{removal_start, removal_turn, removal_end}
+use Rattle.mapping.proofs.Replace.{events_turn, events_end}
 use Rattle.mapping.proofs.remove_event.Goals as goal
 
 pub loop-j-init : goal.loop-j-init

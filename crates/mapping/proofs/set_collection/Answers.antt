@@ -1,7 +1,6 @@
 -- `mapping::set_collection` meets its contract. Assumes nothing.
 use mathlib.Core.Path.{refl}
 use lib.Seq.{take-set-lt}
-use borrow.Author.Rules.{rules}
 use Rattle.mapping.proofs.Replace.{collections_turn, collections_end}
 use Rattle.mapping.proofs.set_collection.Goals as goal
 

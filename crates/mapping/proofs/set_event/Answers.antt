@@ -1,7 +1,6 @@
 -- `mapping::set_event` meets its contract. Assumes nothing.
 use mathlib.Core.Path.{refl}
 use lib.Seq.{take-set-lt}
-use borrow.Author.Rules.{rules}
 use Rattle.mapping.proofs.Replace.{events_turn, events_end}
 use Rattle.mapping.proofs.set_event.Goals as goal
 

@@ -1,0 +1,21 @@
+use borrow.Author.Tests.{not-true, not-false}
+use borrow.Author.Rules.{rules}
+use Rattle.mapping.proofs.Sized.{kept_sized}
+use Rattle.calls.proofs.Boxes.{gated, tried}
+use Rattle.calls.proofs.commands.map_event.Goals as goal
+
+pub refused-requires : goal.refused-requires
+refused-requires c = c.requires
+
+pub returns-then-not-is_ready : goal.returns-then-not-is_ready
+returns-then-not-is_ready c = gated _ _ _ c.is_ready.ensures (c.if-not-is_ready.true) c.refused.ensures
+
+pub map_event-requires : goal.map_event-requires
+map_event-requires c = kept_sized _ _ c.requires
+
+pub remapped-requires : goal.remapped-requires
+remapped-requires c = (c.requires.guest.held, c.map_event.ensures.within)
+
+pub returns : goal.returns
+returns c =
+    tried _ _ _ c.is_ready.ensures (c.if-not-is_ready.false) c.map_event.ensures c.remapped.ensures

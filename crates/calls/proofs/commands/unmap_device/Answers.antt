@@ -1,0 +1,20 @@
+use borrow.Author.Tests.{not-true, not-false}
+use borrow.Author.Rules.{rules}
+use Rattle.calls.proofs.Boxes.{gated, tried}
+use Rattle.calls.proofs.commands.unmap_device.Goals as goal
+
+pub refused-requires : goal.refused-requires
+refused-requires c = c.requires
+
+pub returns-then-not-is_ready : goal.returns-then-not-is_ready
+returns-then-not-is_ready c = gated _ _ _ c.is_ready.ensures (c.if-not-is_ready.true) c.refused.ensures
+
+pub unmap_device-requires : goal.unmap_device-requires
+unmap_device-requires c = c.requires.within
+
+pub remapped-requires : goal.remapped-requires
+remapped-requires c = (c.requires.guest.held, c.unmap_device.ensures.within)
+
+pub returns : goal.returns
+returns c =
+    tried _ _ _ c.is_ready.ensures (c.if-not-is_ready.false) c.unmap_device.ensures c.remapped.ensures
