@@ -62,7 +62,7 @@ fn read_named<R: Read>(rt: &HostRuntime, from: &mut R, name: &[u8], buffer: &mut
     got
 }
 
-// A path is text to the system's library: what isn't UTF-8 names no file that it opens.
+// The library takes a path as text: a name that isn't UTF-8 can't be opened, and so can't be read (§11.5).
 fn open(rt: &HostRuntime, path: &[u8]) -> Result<File> {
     match str::from_utf8(path) {
         Ok(text) => File::open(rt, text),
@@ -82,7 +82,8 @@ fn read_path(rt: &HostRuntime, path: &[u8], buffer: &mut [u8]) -> Input
     }
 }
 
-// §11.1: the file that the first argument names, or standard input without one.
+// §11.1: the file that the first argument names, or standard input without one. A name that has no room is taken for the empty one, which
+// names no file.
 pub fn read_image(rt: &HostRuntime, buffer: &mut [u8]) -> Input
     ensures { Fills result buffer.new }
 {
