@@ -23,6 +23,7 @@ const START: u64 = 0x40000000;
 // The bytes of a state.
 pub const STATE: usize = 11400;
 
+#[tactic(auto, unfolding(crate::specs::Image::is_image))]
 pub fn is_image(size: usize) -> bool
     ensures { result ≡ is_image size }
 {

@@ -6,16 +6,16 @@ mod text;
 
 use image::input::Input;
 
-fn show_bytes(bytes: &[u8]) {
+fn show_bytes(rt: &HostRuntime, bytes: &[u8]) {
     let mut out = [0u8; listing::ROOM];
     let n = text::show_image(bytes, &mut out);
-    image::input::write_text(&out[..n]);
+    image::input::write_text(rt, &out[..n]);
 }
 
-fn main() {
+fn main(rt: HostRuntime) {
     let mut buffer = [0u8; image::input::MOST];
-    match image::input::read_image(&mut buffer) {
+    match image::input::read_image(&rt, &mut buffer) {
         Input::Unread => {}
-        Input::Bytes(n) => show_bytes(&buffer[..n]),
+        Input::Bytes(n) => show_bytes(&rt, &buffer[..n]),
     }
 }
