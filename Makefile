@@ -29,7 +29,7 @@ demo: target/staticlib/libritikancha.a
 arm:
 	scripts/arm
 
-target/staticlib/libritikancha.a: crates.txt $(shell find crates -name '*.rt' -o -name '*.antt')
+target/staticlib/libritikancha.a: crates.txt $(shell find crates -name out -prune -o \( -name '*.rt' -o -name '*.antt' \) -print)
 	@scripts/tools rt
 	scripts/library
 
