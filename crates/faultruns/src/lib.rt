@@ -1,3 +1,2 @@
 // Computed runs: each fault of a restore by its code.
 #![tactic(auto)]
-

@@ -1,3 +1,2 @@
 // Computed runs of mapping commands, save and restore: definitions and laws, no code.
 #![tactic(auto)]
-

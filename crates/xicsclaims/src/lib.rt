@@ -1,3 +1,2 @@
 // Claims about the calls on an XICS; no code.
 #![tactic(auto)]
-
