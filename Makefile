@@ -3,8 +3,9 @@
 .PHONY: all check faults header demo arm bench show explain audit clean
 all:
 	@scripts/tools rt gcc
-	rt check
-	rt staticlib ritikancha
+	rt all check
+	scripts/library
+	scripts/programs show explain
 	scripts/demo
 
 check:
@@ -13,7 +14,7 @@ check:
 # the planted faults that the second program must find
 faults:
 	@scripts/tools rt cargo rustc gcc
-	rt staticlib ritikancha
+	scripts/library
 	scripts/second faults
 
 # the C header against the archive and the source
@@ -28,27 +29,27 @@ demo: target/staticlib/libritikancha.a
 arm:
 	scripts/arm
 
-target/staticlib/libritikancha.a: crates.txt $(shell find crates -name '*.rt' -o -name '*.antt')
+target/staticlib/libritikancha.a: crates.txt $(shell find crates -name out -prune -o \( -name '*.rt' -o -name '*.antt' \) -print)
 	@scripts/tools rt
-	rt staticlib ritikancha
+	scripts/library
 
 # the showing program held against the second program's, image by image
 show:
 	@scripts/tools rt cargo rustc gcc
-	rt check show
-	rt staticlib ritikancha
+	scripts/programs show
+	scripts/library
 	scripts/second build
 	scripts/show
 
 # the explaining program held against the second program's, image by image
 explain:
 	@scripts/tools rt cargo rustc gcc
-	rt check explain
-	rt staticlib ritikancha
+	scripts/programs explain
+	scripts/library
 	scripts/second build
 	scripts/explain
 
-# what the proofs rest on, against docs/audit.txt; after a check
+# what the proofs rest on, against docs/audit.txt; after make check
 audit:
 	scripts/audit
 
@@ -59,7 +60,7 @@ BENCH_OBJECTS = $(patsubst bench/%.c,target/bench/%.o,$(wildcard bench/*.c))
 
 bench:
 	@scripts/tools rt gcc
-	rt staticlib ritikancha
+	scripts/library
 	@$(MAKE) --no-print-directory target/bench/bench
 	@target/bench/bench
 

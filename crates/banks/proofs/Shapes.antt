@@ -1,6 +1,6 @@
 -- The two shapes of a function that changes a bank by a number n of the width w, as contracts. R is what it requires of n, and f what it makes of the bank.
---     lent     in place:   fn (b: &mut Bank, n: uN)          now b.exit ≡ f n (now b.entry)
---     held     by value:   fn (b: Bank, n: uN) -> Bank       r ≡ f n b
+--     lent     in place:   fn (b: &mut Bank, n: uN)          b.new ≡ f n b.old
+--     held     by value:   fn (b: Bank, n: uN) -> Bank       result ≡ f n b
 -- Definitions, to which the contracts of the functions compute.
 use Prim.Native.Nat.{ℕ}
 use mathlib.Core.Path.{◌≡◌}
