@@ -1,5 +1,5 @@
 -- Save (part 7): the memory that it leaves.
-use Rattle.std.specs.Prelude.{ℕ, zero, suc, ◌+◌, ◌-◌, ◌*◌, ◌^◌, Bool, List, [], ◌∷◌, ◌++◌, length, get_or, ltb, eqb}
+use Rattle.std.specs.Prelude.{ℕ, zero, suc, ◌-◌, ◌*◌, ◌^◌, Bool, List, [], ◌∷◌, ◌++◌, length, get_or, ltb, eqb}
 use Rattle.lists.specs.Rows.{choose}
 use Rattle.words.specs.Words.{bytes_of, put_at}
 use Rattle.entries.specs.Device.{device_word}

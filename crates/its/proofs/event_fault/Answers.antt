@@ -5,7 +5,7 @@ use mathlib.Core.Path.{◌≡◌, sym, ◌∙◌}
 use lib.Dec.{ltb}
 use lib.ListN.{get_or}
 use borrow.Author.Rules.{rules}
-use borrow.Author.Tests.{le-leb, lt-leb, lt-ltb, le-ltb, not-true, not-false}
+use borrow.Author.Tests.{le-leb, lt-leb, lt-ltb, le-ltb}
 use Rattle.mapping.proofs.Counts.{Full, full_of, devices_room, collections_room, events_room, events_count, has_row, no_row, row_read}
 use Rattle.mapping.specs.Commands.{has_device, has_collection, has_event, device_of}
 use Rattle.mapping.specs.Mapped.{no_device, rows}

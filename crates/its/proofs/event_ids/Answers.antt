@@ -4,7 +4,6 @@ use native.Mathlib.Omega.{arith}
 use mathlib.Core.Path.{◌∙◌}
 use lib.Dec.{lit<}
 use lib.Pow.{shl_exact, pow_mono}
-use borrow.Author.Rules.{rules}
 use Rattle.its.proofs.event_ids.Goals as goal
 
 pub returns : goal.returns

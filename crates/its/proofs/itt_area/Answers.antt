@@ -1,5 +1,4 @@
 -- `its::itt_area` meets its contract. Assumes nothing.
-use borrow.Author.Rules.{rules}
 use Rattle.its.proofs.itt_area.Goals as goal
 
 pub returns : goal.returns

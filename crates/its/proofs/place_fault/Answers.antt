@@ -1,8 +1,6 @@
 -- `its::place_fault` meets its contract. Assumes nothing.
 use mathlib.Core.Bool.{true}
 use mathlib.Core.Path.{◌≡◌, sym, ◌∙◌}
-use borrow.Author.Rules.{rules}
-use borrow.Author.Tests.{not-true, not-false}
 use Rattle.areas.specs.Area.{inside, overlaps}
 use Rattle.rules.specs.Rules.{memory_area, table_area}
 use Rattle.mapping.specs.Commands.{is_empty, well_formed}

@@ -1,6 +1,5 @@
 -- `its::table_areas` meets its contract. Assumes nothing.
 use native.Mathlib.Omega.{arith}
-use borrow.Author.Rules.{rules}
 use Rattle.guest.specs.Machine.{view}
 use Rattle.rules.proofs.Facts.{sound_devices, sound_collections}
 use Rattle.mapping.proofs.Sized.{kept_sized}

@@ -1,9 +1,7 @@
 -- `its::with_itts` meets its contract. Assumes nothing.
-use Prim.Native.Nat.{◌+◌, ◌-◌, ◌≤◌}
 use native.Mathlib.Omega.{arith}
 use mathlib.Core.Path.{◌≡◌, sym, ◌∙◌}
-use mathlib.Core.List.{◌++◌, map, append-nil}
-use lib.ListN.{length, take}
+use mathlib.Core.List.{append-nil}
 use borrow.Author.Rules.{rules}
 use Rattle.areas.specs.Area.{areas}
 use Rattle.rules.proofs.Rows.{map_more}

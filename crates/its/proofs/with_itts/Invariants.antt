@@ -1,15 +1,10 @@
 -- `its::with_itts` meets its contract. Assumes nothing.
 use Prim.Native.Nat.{◌+◌, ◌-◌, ◌≤◌}
-use native.Mathlib.Omega.{arith}
-use mathlib.Core.Path.{◌≡◌, sym, ◌∙◌}
-use mathlib.Core.List.{◌++◌, map, append-nil}
+use mathlib.Core.Path.{◌≡◌}
+use mathlib.Core.List.{◌++◌, map}
 use lib.ListN.{length, take}
-use borrow.Author.Rules.{rules}
 use Rattle.areas.specs.Area.{areas}
-use Rattle.rules.proofs.Rows.{map_more}
-use Rattle.mapping.specs.Mapped.{itt_area, no_device}
-use Rattle.mapping.proofs.Counts.{full_of}
-use Rattle.its.proofs.Numbers.{bits_small}
+use Rattle.mapping.specs.Mapped.{itt_area}
 use Rattle.its.proofs.with_itts.Given as goal
 
 abbrev pub invariant-loop-i : goal.invariant-loop-i

@@ -1,14 +1,10 @@
 -- `save::first_event` meets its contract. Assumes nothing.
 use Prim.Native.Nat.{◌-◌}
-use native.Mathlib.Omega.{arith}
 use lib.Dec.{leb}
-use borrow.Author.Rules.{rules}
-use borrow.Author.Tests.{le-leb, lt-leb}
 use Rattle.mapping.specs.Mapped.{no_event}
 use Rattle.mapping.proofs.Table.{Seeking}
 use Rattle.maplayout.specs.MapLayout.{decode_map}
 use Rattle.save.specs.Saving.{event_device}
-use Rattle.save.proofs.Rows.{seek_from, seek_past, found_here, found_none}
 use Rattle.save.proofs.first_event.Given as goal
 
 abbrev pub invariant-loop-j : goal.invariant-loop-j

@@ -1,7 +1,6 @@
 -- `save::save_tables` meets its contract. Assumes nothing.
 use native.Mathlib.Omega.{arith}
 use mathlib.Core.Path.{refl, ◌∙◌}
-use borrow.Author.Rules.{rules}
 use Rattle.save.proofs.Itts.{saved_whole}
 use Rattle.save.proofs.Sound.{start_read, tables_read, devices_low, devices_few, collections_low, collections_few, devices_given, collections_given, itts_given}
 use Rattle.save.proofs.save_tables.Goals as goal

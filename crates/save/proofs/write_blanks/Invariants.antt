@@ -1,7 +1,6 @@
 -- `save::write_blanks` meets its contract. Assumes nothing.
 use Prim.Native.Nat.{◌+◌, ◌-◌, ◌*◌}
-use borrow.Author.Rules.{rules}
-use Rattle.save.proofs.Tables.{Clearing, clear_start, clear_turn, blank_end}
+use Rattle.save.proofs.Tables.{Clearing}
 use Rattle.save.proofs.write_blanks.Given as goal
 
 abbrev pub invariant-loop-i : goal.invariant-loop-i

@@ -1,15 +1,13 @@
 -- `save::write_devices` meets its contract. Assumes nothing.
-use Prim.Native.Nat.{◌-◌, ◌≤◌, ◌<◌}
+use Prim.Native.Nat.{◌≤◌, ◌<◌}
 use native.Mathlib.Omega.{arith}
-use lib.ListN.{drop}
 use borrow.Author.Rules.{rules}
 use Rattle.mapping.specs.Mapped.{device_key, no_device}
-use Rattle.maplayout.specs.MapLayout.{decode_map}
 use Rattle.maplayout.proofs.InPlace.{devices_few}
 use Rattle.tables.specs.Bytes.{device_cap}
 use Rattle.tables.specs.Saved.{device_entry}
 use Rattle.save.proofs.Rows.{row_good}
-use Rattle.save.proofs.Chain.{row_low, row_high, Writing, write_start, write_row, write_end}
+use Rattle.save.proofs.Chain.{row_low, row_high, write_start, write_row, write_end}
 use Rattle.save.proofs.write_devices.Goals as goal
 
 pub loop-j-init : goal.loop-j-init

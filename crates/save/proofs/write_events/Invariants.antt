@@ -1,15 +1,11 @@
 -- `save::write_events` meets its contract. Assumes nothing.
-use Prim.Native.Nat.{◌-◌, ◌≤◌, ◌<◌}
-use native.Mathlib.Omega.{arith}
+use Prim.Native.Nat.{◌-◌}
 use lib.ListN.{take, drop}
-use borrow.Author.Rules.{rules}
-use Rattle.mapping.specs.Mapped.{no_event}
 use Rattle.maplayout.specs.MapLayout.{decode_map}
 use Rattle.chains.specs.Slots.{uncapped}
 use Rattle.tables.specs.Saved.{event_entry, event_id}
 use Rattle.save.specs.Saving.{event_run}
-use Rattle.save.proofs.Rows.{run_count, run_row}
-use Rattle.save.proofs.Chain.{row_low, row_high, Writing, write_start, write_row, write_end}
+use Rattle.save.proofs.Chain.{Writing}
 use Rattle.save.proofs.write_events.Given as goal
 
 abbrev pub invariant-loop-j : goal.invariant-loop-j

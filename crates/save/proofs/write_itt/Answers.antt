@@ -1,5 +1,4 @@
 -- `save::write_itt` meets its contract. Assumes nothing.
-use borrow.Author.Rules.{rules}
 use Rattle.save.proofs.Itts.{first_before, events_ready, itt_saved}
 use Rattle.save.proofs.write_itt.Goals as goal
 

@@ -1,12 +1,11 @@
 -- `save::write_itts` meets its contract. Assumes nothing.
-use Prim.Native.Nat.{◌-◌, ◌<◌}
+use Prim.Native.Nat.{◌<◌}
 use native.Mathlib.Omega.{arith}
 use lib.ListN.{length}
-use borrow.Author.Rules.{rules}
 use Rattle.mapping.specs.Mapped.{no_device}
 use Rattle.maplayout.specs.MapLayout.{decode_map}
 use Rattle.save.proofs.Rows.{row_good}
-use Rattle.save.proofs.Itts.{Tabling, table_start, passed_at, table_turn, table_end}
+use Rattle.save.proofs.Itts.{table_start, passed_at, table_turn, table_end}
 use Rattle.save.proofs.write_itts.Goals as goal
 
 pub loop-i-init : goal.loop-i-init

@@ -1,6 +1,5 @@
 -- `save::write_next` meets its contract. Assumes nothing.
 use native.Mathlib.Omega.{arith}
-use borrow.Author.Rules.{rules}
 use Rattle.save.proofs.Tables.{blanks_word}
 use Rattle.save.proofs.write_next.Goals as goal
 
