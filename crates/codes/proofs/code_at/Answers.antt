@@ -1,5 +1,4 @@
 -- `codes::code_at` meets its contract. Assumes nothing.
-use borrow.Author.Rules.{rules}
 use Rattle.codes.proofs.Numbers.{code_none, code_some}
 use Rattle.codes.proofs.code_at.Goals as goal
 

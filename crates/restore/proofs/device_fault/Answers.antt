@@ -1,6 +1,4 @@
 -- `restore::device_fault` meets its contract. Assumes nothing.
-use borrow.Author.Rules.{rules}
-use borrow.Author.Tests.{not-true, not-false}
 use Rattle.restore.proofs.Over.{guest_counted, counted}
 use Rattle.restore.proofs.Devices.{memory_loaded, fault_next_lem, fault_size_lem, fault_full, fault_outside_lem, fault_struck, fault_none}
 use Rattle.restore.proofs.device_fault.Goals as goal

@@ -1,9 +1,6 @@
 -- `restore::read_collections` meets its contract. Assumes nothing.
-use Prim.Native.Nat.{◌-◌}
 use native.Mathlib.Omega.{arith}
-use borrow.Author.Rules.{rules}
-use borrow.Author.Tests.{not-true, not-false}
-use Rattle.restore.proofs.Collections.{Reading, collections_start, collections_begun, collections_end, collections_blank, collections_fault, collections_turn}
+use Rattle.restore.proofs.Collections.{collections_start, collections_begun, collections_end, collections_blank, collections_fault, collections_turn}
 use Rattle.restore.proofs.read_collections.Goals as goal
 
 pub loop-i-init : goal.loop-i-init

@@ -1,14 +1,11 @@
 -- `restore::read_devices` meets its contract. Assumes nothing.
 use Prim.Native.Nat.{◌-◌, ◌/◌}
-use native.Mathlib.Omega.{arith}
-use mathlib.Core.Path.{◌≡◌, refl, ◌∙◌}
+use mathlib.Core.Path.{◌≡◌}
 use mathlib.Core.Bool.{true}
 use lib.ListN.{length}
-use borrow.Author.Rules.{rules}
 use Rattle.tables.specs.Bytes.{device_slots}
 use Rattle.tables.specs.Restored.{walk, visit_device}
-use Rattle.restore.proofs.Walk.{Walks, walk_start, walk_none, walk_begun, walk_memory, walk_inside, walk_bad, walk_last, walk_fault, walk_on, walk_less}
-use Rattle.restore.proofs.Whole.{devices_walk}
+use Rattle.restore.proofs.Walk.{Walks}
 use Rattle.restore.proofs.read_devices.Given as goal
 
 abbrev pub invariant-loop-s : goal.invariant-loop-s

@@ -1,5 +1,4 @@
 -- `restore::read_tables` meets its contract. Assumes nothing.
-use borrow.Author.Rules.{rules}
 use Rattle.restore.proofs.Searches.{device_pages_lem, collection_pages_lem}
 use Rattle.restore.proofs.Whole.{collections_inside, collections_few, collections_bytes, devices_inside, devices_bytes, devices_few, restore_begun, restore_fault, restore_read, restore_memory, restore_rest}
 use Rattle.restore.proofs.read_tables.Goals as goal

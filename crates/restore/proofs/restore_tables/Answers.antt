@@ -1,5 +1,4 @@
 -- `restore::restore_tables` meets its contract. Assumes nothing.
-use borrow.Author.Rules.{rules}
 use Rattle.restore.proofs.Whole.{errno_none, errno_some}
 use Rattle.restore.proofs.restore_tables.Goals as goal
 

@@ -1,6 +1,5 @@
 -- `restore::take_collection` meets its contract. Assumes nothing.
 use native.Mathlib.Omega.{arith}
-use borrow.Author.Rules.{rules}
 use Rattle.restore.proofs.Over.{guest_counted, counted}
 use Rattle.restore.proofs.Collections.{place_fits, collection_high, collection_again, collection_full, collection_new}
 use Rattle.restore.proofs.take_collection.Goals as goal

@@ -1,7 +1,6 @@
 -- `restore::take_event` meets its contract. Assumes nothing.
 use native.Mathlib.Omega.{arith}
 use borrow.Author.Rules.{rules}
-use borrow.Author.Tests.{not-true, not-false}
 use Rattle.restore.proofs.Over.{counted}
 use Rattle.restore.proofs.Events.{icid_small, event_low, event_high, event_lost, event_astray, event_full, event_new}
 use Rattle.restore.proofs.take_event.Goals as goal

@@ -1,6 +1,5 @@
 -- `restore::visit_collection` meets its contract. Assumes nothing.
 use native.Mathlib.Omega.{arith}
-use borrow.Author.Rules.{rules}
 use Rattle.tables.specs.Restored.{visit_collection}
 use Rattle.restore.proofs.Answers.{kind_few, kind_coded}
 use Rattle.restore.proofs.visit_collection.Goals as goal

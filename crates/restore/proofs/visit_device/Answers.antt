@@ -1,6 +1,5 @@
 -- `restore::visit_device` meets its contract. Assumes nothing.
 use native.Mathlib.Omega.{arith}
-use borrow.Author.Rules.{rules}
 use Rattle.restore.proofs.Over.{guest_counted, counted}
 use Rattle.restore.proofs.Devices.{fault_few, memory_loaded, memory_long, allowed, area_inside, itt_few, device_stops, device_begun, device_goes}
 use Rattle.restore.proofs.visit_device.Goals as goal

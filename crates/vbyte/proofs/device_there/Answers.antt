@@ -1,6 +1,5 @@
 -- `vbyte::device_there` meets its contract. Assumes nothing.
 use mathlib.Core.Path.{sym}
-use borrow.Author.Rules.{rules}
 use Rattle.lists.proofs.Member.{all_of, at_in}
 use Rattle.vbyte.proofs.Laws.{v_byte}
 use Rattle.vbyte.proofs.device_there.Goals as goal

@@ -1,7 +1,6 @@
 -- `restore::places::area_bytes` meets its contract. Assumes nothing.
 use Prim.Native.Nat.{◌-◌}
 use native.Mathlib.Omega.{arith}
-use borrow.Author.Rules.{rules}
 use Rattle.restore.proofs.Inside.{inside_says, part_is}
 use Rattle.restore.proofs.places.area_bytes.Goals as goal
 

@@ -1,12 +1,10 @@
 -- `restore::places::strikes_itts` meets its contract. Assumes nothing.
-use Prim.Native.Nat.{◌-◌}
 use native.Mathlib.Omega.{arith}
 use mathlib.Core.Path.{◌∙◌}
-use borrow.Author.Rules.{rules}
 use Rattle.mapping.specs.Mapped.{no_device}
-use Rattle.mapping.proofs.Table.{Seeking, seek_start, seek_turn}
+use Rattle.mapping.proofs.Table.{seek_start, seek_turn}
 use Rattle.maplayout.specs.MapLayout.{decode_map}
-use Rattle.restore.proofs.Searches.{meets, met, itts_struck, itts_clear, bits_few}
+use Rattle.restore.proofs.Searches.{met, itts_struck, itts_clear, bits_few}
 use Rattle.restore.proofs.places.strikes_itts.Goals as goal
 
 pub loop-i-init : goal.loop-i-init

@@ -1,5 +1,4 @@
 -- `restore::places::strikes_tables` meets its contract. Assumes nothing.
-use borrow.Author.Rules.{rules}
 use Rattle.restore.proofs.Over.{guest_counted, counted, few_rows}
 use Rattle.restore.proofs.Searches.{begun_rules, device_table_lem, collection_table_lem, device_pages_lem, collection_pages_lem, tables_first, tables_second, tables_rest}
 use Rattle.restore.proofs.places.strikes_tables.Goals as goal

@@ -1,14 +1,11 @@
 -- `restore::rows::place_collection` meets its contract. Assumes nothing.
-use Prim.Native.Nat.{◌-◌}
 use native.Mathlib.Omega.{arith}
 use mathlib.Core.Path.{sym, ap, ◌∙◌}
 use lib.Dec.{leb}
-use borrow.Author.Rules.{rules}
 use borrow.Author.Tests.{le-leb, lt-leb}
 use Rattle.mapping.specs.declared.Collection.{Collection}
 use Rattle.mapping.specs.Mapped.{collection_key, no_collection}
-use Rattle.mapping.proofs.Table.{Seeking, seek_start, seek_turn}
-use Rattle.maplayout.specs.MapLayout.{decode_map}
+use Rattle.mapping.proofs.Table.{seek_start, seek_turn}
 use Rattle.restore.proofs.Searches.{row_here, row_end}
 use Rattle.restore.proofs.rows.place_collection.Goals as goal
 

@@ -1,5 +1,4 @@
 -- `restore::slots::entry_at` meets its contract. Assumes nothing.
-use borrow.Author.Rules.{rules}
 use Rattle.tables.specs.Bytes.{entry_at}
 use Rattle.restore.proofs.slots.entry_at.Goals as goal
 

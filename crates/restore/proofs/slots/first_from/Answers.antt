@@ -1,8 +1,7 @@
 -- `restore::slots::first_from` meets its contract. Assumes nothing.
-use Prim.Native.Nat.{◌-◌}
 use mathlib.Core.Path.{refl}
 use borrow.Author.Rules.{rules}
-use Rattle.restore.proofs.Both.{Seeking, seek_here, seek_turn, seek_end}
+use Rattle.restore.proofs.Both.{seek_here, seek_turn, seek_end}
 use Rattle.restore.proofs.slots.first_from.Goals as goal
 
 pub loop-i-init : goal.loop-i-init

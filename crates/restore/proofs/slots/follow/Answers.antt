@@ -1,7 +1,6 @@
 -- `restore::slots::follow` meets its contract. Assumes nothing.
 use native.Mathlib.Omega.{arith}
 use mathlib.Core.Path.{sym, ◌∙◌}
-use borrow.Author.Rules.{rules}
 use Rattle.restore.proofs.Both.{leads_last, leads_out, leads_near, leads_blank, leads_far, leads_none}
 use Rattle.restore.proofs.slots.follow.Goals as goal
 

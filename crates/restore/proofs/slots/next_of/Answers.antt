@@ -1,5 +1,4 @@
 -- `restore::slots::next_of` meets its contract. Assumes nothing.
-use borrow.Author.Rules.{rules}
 use Rattle.restore.specs.Both.{next_of}
 use Rattle.restore.proofs.slots.next_of.Goals as goal
 

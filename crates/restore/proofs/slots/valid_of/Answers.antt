@@ -1,5 +1,4 @@
 -- `restore::slots::valid_of` meets its contract. Assumes nothing.
-use borrow.Author.Rules.{rules}
 use Rattle.restore.specs.Both.{valid_of}
 use Rattle.restore.proofs.slots.valid_of.Goals as goal
 
