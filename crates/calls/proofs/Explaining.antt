@@ -8,7 +8,6 @@ use lib.ListN.{length}
 use borrow.Author.Tests.{eq-eqb, ne_eqb}
 use Rattle.guest.specs.declared.Reading.{Reading}
 use Rattle.layout.specs.Layout.{size, decode}
-use Rattle.tables.specs.Fault.{Fault, code}
 use Rattle.tables.specs.Restored.{Out, fault, found, restored, verdict}
 use Rattle.restore.specs.Restores.{Reads}
 use Rattle.codes.proofs.Numbers.{numbered, place_few}

@@ -10,7 +10,7 @@ use lib.ListN.{length}
 use borrow.Author.Tests.{eq-eqb, ne_eqb}
 use Rattle.answers.specs.Answer.{refusal, done}
 use Rattle.layout.specs.Layout.{size, decode}
-use Rattle.tables.specs.Fault.{Fault, kind_errno}
+use Rattle.tables.specs.Fault.{kind_errno}
 use Rattle.tables.specs.Restored.{Out, fault, found, restored}
 use Rattle.described.proofs.Faults.{Known, number_known}
 use Rattle.restore.specs.Restores.{errno_of, Restorable, Leaves}

@@ -1,5 +1,5 @@
 -- The ITS commands as steps of the whole box: what §5.3 tests before each, and the two commands that change the tables' places.
-use Rattle.std.specs.Prelude.{ℕ, ◌≡◌, Bool, ◌&&◌, length, eqb}
+use Rattle.std.specs.Prelude.{ℕ, ◌≡◌, Bool, ◌&&◌, eqb}
 use Rattle.lists.specs.Rows.{choose}
 use Rattle.guest.specs.declared.Table.{Table}
 use Rattle.guest.specs.declared.Reading.{Reading}

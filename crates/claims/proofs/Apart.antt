@@ -29,7 +29,7 @@ use Rattle.calls.specs.Groups as groups
 use Rattle.calls.specs.Steps.{change_step, ask_step}
 use Rattle.state.specs.Sound.{sound, Sound}
 use Rattle.calls.specs.Call.{Reply, changes, asks, given, answered, value_of}
-use Rattle.step.specs.Step.{Call, step, vgic_set, vgic_get}
+use Rattle.step.specs.Step.{Call, step}
 use Rattle.claims.specs.Claims.{Passed}
 use Rattle.claims.specs.Demand2 as claim
 use Rattle.claims.proofs.Stored.{says, stored_is}

@@ -26,7 +26,7 @@ use Rattle.lists.proofs.Member.{all_weaker}
 use Rattle.savedlaws.proofs.Local.{Alike, SameIn}
 use Rattle.savedlaws.proofs.Again.{saved_again}
 use Rattle.kept.proofs.Choice.{never, and_both}
-use Rattle.state.specs.Sound.{sound, Sound}
+use Rattle.state.specs.Sound.{Sound}
 use Rattle.calls.specs.Commands.{ready, lookup_step, memory_fault}
 use Rattle.calls.specs.Call.{Reply, answered, looks, saves, restored_to, restores}
 use Rattle.step.specs.Step.{step, its_save, its_restore}

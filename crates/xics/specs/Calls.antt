@@ -1,5 +1,5 @@
 -- The calls on the lent bytes of an XICS.
-use Rattle.std.specs.Prelude.{ℕ, ◌≡◌, List, length, eqb}
+use Rattle.std.specs.Prelude.{ℕ, List, length, eqb}
 use Rattle.lists.specs.Rows.{choose}
 use Rattle.answers.specs.Answer.{done}
 use Rattle.guest.specs.declared.Reading.{Reading}

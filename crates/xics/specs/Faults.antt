@@ -1,6 +1,6 @@
 -- The refusals of the calls on a sound XICS that have more than one, in their order: the errno of the first that applies, and 0 where none
 -- does.
-use Rattle.std.specs.Prelude.{ℕ, ◌^◌, Bool, ◌||◌, not, List, length, leb, eqb}
+use Rattle.std.specs.Prelude.{ℕ, ◌^◌, ◌||◌, not, List, length, leb, eqb}
 use Rattle.lists.specs.Rows.{choose}
 use Rattle.xicswords.specs.Word.{paired}
 use Rattle.xicsrows.specs.XicsLayout.{Row}

@@ -1,6 +1,6 @@
 -- `accepts`: each of the four calls that may change a sound XICS is accepted exactly where its paragraph's tests pass. Assumes nothing.
 use Prim.Native.Nat.{ℕ, ◌^◌, ◌<◌}
-use mathlib.Core.Path.{◌≡◌, refl, ap, ◌∙◌}
+use mathlib.Core.Path.{◌≡◌, refl, ap}
 use mathlib.Core.Bool.{Bool, true, false}
 use mathlib.Core.Logic.{◌↔◌}
 use mathlib.Core.List.{List}
@@ -12,7 +12,7 @@ use Rattle.calls.specs.Call.{Reply, value_of}
 use Rattle.answers.specs.Answer.{done}
 use Rattle.xicswords.specs.Word.{destination, narrow, paired}
 use Rattle.xicswords.proofs.Meaning.{paired_to, paired_from}
-use Rattle.xicsrows.specs.XicsLayout.{server, source, Row, table}
+use Rattle.xicsrows.specs.XicsLayout.{server, source, table}
 use Rattle.xicsrows.specs.Registered.{registered, word_of}
 use Rattle.xicsrules.specs.Sound.{takes, SoundXics}
 use Rattle.xicsrules.proofs.Parts.{both}
@@ -20,7 +20,7 @@ use Rattle.xics.specs.Faults.{server_fault, source_fault, source_word_fault, ser
 use Rattle.xics.specs.declared.XicsChange.{XicsChange}
 use Rattle.xics.specs.declared.XicsChange.TheVariants.{AddServer, AddSource, SetSource, SetServer}
 use Rattle.xics.specs.Calls.{change_fault, changes_xics}
-use Rattle.xics.proofs.Passes.{NewServer, NewSource, SourceWord, ServerWord, new_server_lem, new_source_lem, source_word_lem, server_word_lem}
+use Rattle.xics.proofs.Passes.{new_server_lem, new_source_lem, source_word_lem, server_word_lem}
 use Rattle.xicsclaims.specs.XicsClaims.{Stands, AddsServer, AddsSource, SetsSource, SetsServer, Accepts}
 use Rattle.xicsclaims.proofs.Guard.{no_fault, accepted_fault}
 use Rattle.xicsclaims.proofs.Found.{row_in, in_registered}

@@ -1,13 +1,13 @@
 -- `tests`, `leaves` and `zeros`: what comes before anything of a call, which bytes set-up leaves, and that zeros are sound. Assumes nothing.
 use Prim.Native.Nat.{ℕ, ◌+◌, ◌≤◌}
 use native.Mathlib.Omega.{arith}
-use mathlib.Core.Path.{◌≡◌, refl, ap, ◌∙◌}
-use mathlib.Core.Bool.{Bool, true, false, false≢true}
+use mathlib.Core.Path.{◌≡◌, refl, ◌∙◌}
+use mathlib.Core.Bool.{true, false≢true}
 use mathlib.Core.List.{List}
-use lib.ListN.{length, take, drop, replicate}
+use lib.ListN.{length, drop, replicate}
 use lib.Dec.{eqb}
 use borrow.Author.Tests.{eq-eqb, ne_eqb, eqb-true}
-use Rattle.lists.specs.Rows.{choose, all}
+use Rattle.lists.specs.Rows.{all}
 use Rattle.kept.proofs.Choice.{choose_by}
 use Rattle.words.specs.Words.{le, le_at, bytes_of, rows_of}
 use Rattle.words.proofs.Laws.{length-bytes_of, drop-put_at-past}

@@ -1,4 +1,3 @@
-use borrow.Author.Rules.{rules}
 use Rattle.calls.proofs.answer.Goals as goal
 
 pub returns-in-VgicGet : goal.returns-in-VgicGet

@@ -1,7 +1,5 @@
 -- `calls::ask` meets its contract. Assumes nothing.
 use mathlib.Core.Path.{sym, ◌∙◌}
-use borrow.Author.Tests.{not-true, not-false}
-use borrow.Author.Rules.{rules}
 use Rattle.calls.proofs.Laws.{parts, guest_kept, ask_short, ask_unsound, ask_answers}
 use Rattle.calls.proofs.ask.Goals as goal
 

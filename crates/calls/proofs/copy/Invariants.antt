@@ -1,8 +1,6 @@
 -- `calls::copy` meets its contract. Assumes nothing.
 use Prim.Native.Nat.{◌-◌}
-use mathlib.Core.Path.{refl}
-use borrow.Author.Rules.{rules}
-use Rattle.calls.proofs.Copied.{Copying, copy_start, copy_turn, copy_end}
+use Rattle.calls.proofs.Copied.{Copying}
 use Rattle.calls.proofs.copy.Given as goal
 
 abbrev pub invariant-loop-i : goal.invariant-loop-i

@@ -1,7 +1,5 @@
 -- `calls::explain` meets its contract. Assumes nothing.
 use mathlib.Core.Path.{sym, ◌∙◌}
-use borrow.Author.Tests.{not-true, not-false}
-use borrow.Author.Rules.{rules}
 use Rattle.calls.proofs.Restoring.{restorable, as_of}
 use Rattle.calls.proofs.Explaining.{explain_short, explain_unsound, explain_refuses, explain_reads}
 use Rattle.calls.proofs.explain.Goals as goal

@@ -1,7 +1,5 @@
 -- `calls::is_sound` meets its contract. Assumes nothing.
 use mathlib.Core.Path.{sym, ◌∙◌}
-use borrow.Author.Tests.{not-true, not-false}
-use borrow.Author.Rules.{rules}
 use Rattle.calls.proofs.Laws.{fails_counts, fails_map_counts, fails_rules, decides}
 use Rattle.calls.proofs.is_sound.Goals as goal
 

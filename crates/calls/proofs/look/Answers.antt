@@ -1,7 +1,5 @@
 -- `calls::look` meets its contract. Assumes nothing.
 use mathlib.Core.Path.{sym, ◌∙◌}
-use borrow.Author.Tests.{not-true, not-false}
-use borrow.Author.Rules.{rules}
 use Rattle.calls.proofs.Laws.{parts, box_kept, look_short, look_unsound, look_answers}
 use Rattle.calls.proofs.look.Goals as goal
 

@@ -1,4 +1,3 @@
-use borrow.Author.Rules.{rules}
 use Rattle.calls.proofs.perform.Goals as goal
 
 pub returns-in-Place : goal.returns-in-Place

@@ -2,7 +2,6 @@
 use mathlib.Core.Path.{◌≡◌, sym, ◌∙◌}
 use mir.Syntax.{w64}
 use mir.Val.{to_z, of_z}
-use borrow.Author.Tests.{not-true, not-false}
 use borrow.Author.Rules.{rules}
 use Rattle.calls.proofs.Saving.{memory_small}
 use Rattle.calls.proofs.Restoring.{restorable, as_of, restore_small, restore_short, restore_unsound, restore_refuses, restore_faulty, restore_done}

@@ -2,7 +2,6 @@
 use mathlib.Core.Path.{◌≡◌, sym, ◌∙◌}
 use mir.Syntax.{w64}
 use mir.Val.{to_z, of_z}
-use borrow.Author.Tests.{not-true, not-false}
 use borrow.Author.Rules.{rules}
 use Rattle.calls.proofs.Laws.{command_short, command_unsound, command_errno, command_refuses, command_settles}
 use Rattle.calls.proofs.run_command.Goals as goal

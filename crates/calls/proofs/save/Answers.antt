@@ -2,7 +2,6 @@
 use mathlib.Core.Path.{◌≡◌, sym, ◌∙◌}
 use mir.Syntax.{w64}
 use mir.Val.{to_z, of_z}
-use borrow.Author.Tests.{not-true, not-false}
 use borrow.Author.Rules.{rules}
 use Rattle.calls.proofs.Laws.{parts}
 use Rattle.calls.proofs.Saving.{fault_long, fault_placed, memory_small, save_short, save_unsound, save_refuses, save_done}

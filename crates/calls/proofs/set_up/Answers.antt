@@ -1,9 +1,7 @@
 use mathlib.Core.Path.{sym, ap, ◌∙◌}
 use Rattle.guest.specs.Machine.{Machine}
 use Rattle.rules.specs.Rules.{memory_ok}
-use borrow.Author.Tests.{not-true, not-false}
 use Rattle.calls.proofs.Laws.{setup_short, setup_refused, setup_done}
-use borrow.Author.Rules.{rules}
 use Rattle.calls.proofs.set_up.Goals as goal
 
 pub returns-then-state-ne11400 : goal.returns-then-state-ne11400

@@ -1,4 +1,3 @@
-use borrow.Author.Rules.{rules}
 use Rattle.calls.proofs.step.Goals as goal
 
 pub returns-in-AddVcpu : goal.returns-in-AddVcpu

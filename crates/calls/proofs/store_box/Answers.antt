@@ -1,6 +1,5 @@
 -- `calls::store_box` meets its contract. Assumes nothing.
 use mathlib.Core.Path.{◌∙◌}
-use borrow.Author.Rules.{rules}
 use Rattle.calls.proofs.Laws.{stored_both}
 use Rattle.calls.proofs.store_box.Goals as goal
 

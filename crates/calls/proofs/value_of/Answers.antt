@@ -1,5 +1,4 @@
 use Rattle.calls.proofs.Laws.{value_four, value_eight, value_none}
-use borrow.Author.Rules.{rules}
 use Rattle.calls.proofs.value_of.Goals as goal
 
 pub returns-then-value-eq4 : goal.returns-then-value-eq4

@@ -1,11 +1,8 @@
 -- `mapcheck::collections_ok` meets its contract. The loop's invariant: every row passed is right. Assumes nothing.
-use Prim.Native.Nat.{◌-◌}
 use native.Mathlib.Omega.{arith}
-use borrow.Author.Rules.{rules}
 use Rattle.mapping.specs.Mapped.{no_collection}
-use Rattle.maplayout.specs.MapLayout.{decode_map}
-use Rattle.mapcheck.proofs.Verdicts.{is_collection, collections_same, passed, failed}
-use Rattle.mapcheck.proofs.Loops.{Passing, pass_start, pass_turn, pass_fail, pass_end}
+use Rattle.mapcheck.proofs.Verdicts.{collections_same, passed, failed}
+use Rattle.mapcheck.proofs.Loops.{pass_start, pass_turn, pass_fail, pass_end}
 use Rattle.mapcheck.proofs.collections_ok.Goals as goal
 
 pub loop-i-init : goal.loop-i-init

@@ -1,6 +1,5 @@
 -- `mapcheck::device_index` meets its contract. Assumes nothing.
 use native.Mathlib.Omega.{arith}
-use borrow.Author.Rules.{rules}
 use Rattle.mapcheck.proofs.Verdicts.{row_sought}
 use Rattle.mapcheck.proofs.device_index.Goals as goal
 

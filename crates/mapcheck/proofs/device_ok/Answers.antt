@@ -1,5 +1,4 @@
 -- `mapcheck::device_ok` meets its contract. Assumes nothing.
-use borrow.Author.Rules.{rules}
 use Rattle.its.proofs.Faults.{formed_bits}
 use Rattle.mapcheck.proofs.Verdicts.{passed, failed, inside_same}
 use Rattle.mapcheck.proofs.device_ok.Goals as goal

@@ -1,11 +1,8 @@
 -- `mapcheck::devices_ok` meets its contract. The loop's invariant: every row passed is right. Assumes nothing.
-use Prim.Native.Nat.{◌-◌}
 use native.Mathlib.Omega.{arith}
-use borrow.Author.Rules.{rules}
 use Rattle.mapping.specs.Mapped.{no_device}
-use Rattle.maplayout.specs.MapLayout.{decode_map}
-use Rattle.mapcheck.proofs.Verdicts.{is_device, devices_same, memory_read, tables_read, pages_few, passed, failed}
-use Rattle.mapcheck.proofs.Loops.{Passing, pass_start, pass_turn, pass_fail, pass_end}
+use Rattle.mapcheck.proofs.Verdicts.{devices_same, memory_read, tables_read, pages_few, passed, failed}
+use Rattle.mapcheck.proofs.Loops.{pass_start, pass_turn, pass_fail, pass_end}
 use Rattle.mapcheck.proofs.devices_ok.Goals as goal
 
 pub overflow_mul-entries : goal.overflow_mul-entries

@@ -1,12 +1,8 @@
 -- `mapcheck::events_ok` meets its contract. The loop's invariant: every row passed is right. Assumes nothing.
-use Prim.Native.Nat.{◌-◌}
 use native.Mathlib.Omega.{arith}
-use borrow.Author.Rules.{rules}
 use Rattle.mapping.specs.Mapped.{no_event}
-use Rattle.mapping.specs.MapRules.{event_ok}
-use Rattle.maplayout.specs.MapLayout.{decode_map}
 use Rattle.mapcheck.proofs.Verdicts.{passed, failed}
-use Rattle.mapcheck.proofs.Loops.{Passing, pass_start, pass_turn, pass_fail, pass_end}
+use Rattle.mapcheck.proofs.Loops.{pass_start, pass_turn, pass_fail, pass_end}
 use Rattle.mapcheck.proofs.events_ok.Goals as goal
 
 pub event_count-n-requires : goal.event_count-n-requires

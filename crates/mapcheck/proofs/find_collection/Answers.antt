@@ -1,11 +1,8 @@
 -- `mapcheck::find_collection` meets its contract. The loop's invariant: no row passed has the key. Assumes nothing.
-use Prim.Native.Nat.{◌-◌}
 use native.Mathlib.Omega.{arith}
-use borrow.Author.Rules.{rules}
 use Rattle.mapping.specs.Mapped.{collection_key, no_collection}
 use Rattle.mapping.proofs.Table.{seek_start}
-use Rattle.maplayout.specs.MapLayout.{decode_map}
-use Rattle.mapcheck.proofs.Loops.{SeekingKey, key_here, key_turn, key_end}
+use Rattle.mapcheck.proofs.Loops.{key_here, key_turn, key_end}
 use Rattle.mapcheck.proofs.find_collection.Goals as goal
 
 pub loop-i-init : goal.loop-i-init

@@ -1,11 +1,8 @@
 -- `mapcheck::find_device` meets its contract. The loop's invariant: no row passed has the key. Assumes nothing.
 use Prim.Native.Nat.{◌-◌}
-use native.Mathlib.Omega.{arith}
-use borrow.Author.Rules.{rules}
 use Rattle.mapping.specs.Mapped.{device_key, no_device}
-use Rattle.mapping.proofs.Table.{seek_start}
 use Rattle.maplayout.specs.MapLayout.{decode_map}
-use Rattle.mapcheck.proofs.Loops.{SeekingKey, key_here, key_turn, key_end}
+use Rattle.mapcheck.proofs.Loops.{SeekingKey}
 use Rattle.mapcheck.proofs.find_device.Given as goal
 
 abbrev pub invariant-loop-i : goal.invariant-loop-i

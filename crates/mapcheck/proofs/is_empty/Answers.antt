@@ -1,5 +1,4 @@
 -- `mapcheck::is_empty` meets its contract. Assumes nothing.
-use borrow.Author.Rules.{rules}
 use borrow.Author.Tests.{eq-eqb, ne_eqb}
 use Rattle.mapcheck.proofs.is_empty.Goals as goal
 

@@ -1,12 +1,7 @@
 -- `mapcheck::itts_apart` meets its contract. The loop's invariant: the ITTs that are left are apart where all are. Assumes nothing.
 use Prim.Native.Nat.{◌-◌}
-use native.Mathlib.Omega.{arith}
-use mathlib.Core.Path.{ap, ◌∙◌}
-use borrow.Author.Rules.{rules}
-use Rattle.mapping.specs.Mapped.{itt_area}
 use Rattle.maplayout.specs.MapLayout.{decode_map}
-use Rattle.mapcheck.proofs.Verdicts.{bits_few}
-use Rattle.mapcheck.proofs.Overlaps.{Parting, part_start, part_here, part_turn, part_end}
+use Rattle.mapcheck.proofs.Overlaps.{Parting}
 use Rattle.mapcheck.proofs.itts_apart.Given as goal
 
 abbrev pub invariant-loop-i : goal.invariant-loop-i

@@ -1,7 +1,6 @@
 -- `mapcheck::keeps_map_rules` meets its contract: the first test that fails decides, or the last. Assumes nothing.
 use mathlib.Core.Bool.{true}
 use mathlib.Core.Path.{◌≡◌, ap, sym, ◌∙◌}
-use borrow.Author.Rules.{rules}
 use Rattle.lists.specs.Rows.{all}
 use Rattle.guest.specs.declared.Tables.{Tables}
 use Rattle.layout.specs.Layout.{decode}

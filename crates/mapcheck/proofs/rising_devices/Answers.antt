@@ -1,13 +1,10 @@
 -- `mapcheck::rising_devices` meets its contract. The loop's invariant: what is left of the rows rises where the whole does.
 -- Assumes nothing.
-use Prim.Native.Nat.{◌-◌}
 use native.Mathlib.Omega.{arith}
 use mathlib.Core.Path.{ap}
-use borrow.Author.Rules.{rules}
 use Rattle.mapping.specs.Mapped.{device_key, no_device}
-use Rattle.maplayout.specs.MapLayout.{decode_map}
 use Rattle.maplayout.proofs.InPlace.{devices_few}
-use Rattle.mapcheck.proofs.Loops.{Climbing, climb_start, climb_turn, climb_fall, climb_end}
+use Rattle.mapcheck.proofs.Loops.{climb_start, climb_turn, climb_fall, climb_end}
 use Rattle.mapcheck.proofs.rising_devices.Goals as goal
 
 pub loop-i-init : goal.loop-i-init

@@ -1,12 +1,9 @@
 -- `mapcheck::rising_events` meets its contract. The loop's invariant: what is left of the rows rises where the whole does. Assumes nothing.
-use Prim.Native.Nat.{◌-◌}
 use native.Mathlib.Omega.{arith}
 use mathlib.Core.Path.{ap, ◌∙◌}
-use borrow.Author.Rules.{rules}
 use Rattle.mapping.specs.Mapped.{event_key, no_event}
-use Rattle.maplayout.specs.MapLayout.{decode_map}
 use Rattle.maplayout.proofs.InPlace.{events_few}
-use Rattle.mapcheck.proofs.Loops.{Climbing, climb_start, climb_turn, climb_fall, climb_end}
+use Rattle.mapcheck.proofs.Loops.{climb_start, climb_turn, climb_fall, climb_end}
 use Rattle.mapcheck.proofs.rising_events.Goals as goal
 
 pub loop-i-init : goal.loop-i-init

@@ -1,12 +1,8 @@
 -- `mapcheck::rising_events` meets its contract. The loop's invariant: what is left of the rows rises where the whole does. Assumes nothing.
 use Prim.Native.Nat.{◌-◌}
-use native.Mathlib.Omega.{arith}
-use mathlib.Core.Path.{ap, ◌∙◌}
-use borrow.Author.Rules.{rules}
 use Rattle.mapping.specs.Mapped.{event_key, no_event}
 use Rattle.maplayout.specs.MapLayout.{decode_map}
-use Rattle.maplayout.proofs.InPlace.{events_few}
-use Rattle.mapcheck.proofs.Loops.{Climbing, climb_start, climb_turn, climb_fall, climb_end}
+use Rattle.mapcheck.proofs.Loops.{Climbing}
 use Rattle.mapcheck.proofs.rising_events.Given as goal
 
 abbrev pub invariant-loop-i : goal.invariant-loop-i

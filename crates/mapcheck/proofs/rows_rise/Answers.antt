@@ -1,5 +1,4 @@
 -- `mapcheck::rows_rise` meets its contract. Assumes nothing.
-use borrow.Author.Rules.{rules}
 use Rattle.mapcheck.proofs.Verdicts.{passed, failed}
 use Rattle.mapcheck.proofs.rows_rise.Goals as goal
 

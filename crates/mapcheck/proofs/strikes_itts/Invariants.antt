@@ -1,13 +1,8 @@
 -- `mapcheck::strikes_itts` meets its contract. The loop's invariant: what is left of the ITTs is struck where the whole is.
 -- Assumes nothing.
 use Prim.Native.Nat.{◌-◌}
-use native.Mathlib.Omega.{arith}
-use mathlib.Core.Path.{ap, ◌∙◌}
-use borrow.Author.Rules.{rules}
-use Rattle.mapping.specs.Mapped.{itt_area}
 use Rattle.maplayout.specs.MapLayout.{decode_map}
-use Rattle.mapcheck.proofs.Verdicts.{bits_few}
-use Rattle.mapcheck.proofs.Overlaps.{Striking, strike_start, strike_here, strike_turn, strike_end}
+use Rattle.mapcheck.proofs.Overlaps.{Striking}
 use Rattle.mapcheck.proofs.strikes_itts.Given as goal
 
 abbrev pub invariant-loop-i : goal.invariant-loop-i

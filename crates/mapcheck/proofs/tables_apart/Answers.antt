@@ -1,7 +1,6 @@
 -- `mapcheck::tables_apart` meets its contract. Assumes nothing.
 use mathlib.Core.List.{map}
 use mathlib.Core.Path.{◌≡◌, ap, ◌∙◌}
-use borrow.Author.Rules.{rules}
 use Rattle.areas.specs.Area.{strikes}
 use Rattle.guest.specs.declared.Tables.{Tables}
 use Rattle.layout.specs.Layout.{decode}

@@ -1,8 +1,6 @@
 -- `xics::ask_delivery` meets its contract. Assumes nothing.
 use native.Mathlib.Omega.{arith}
-use mathlib.Core.Path.{◌≡◌, sym, ◌∙◌}
-use borrow.Author.Tests.{not-true, not-false}
-use borrow.Author.Rules.{rules}
+use mathlib.Core.Path.{sym, ◌∙◌}
 use Rattle.xics.proofs.Laws.{counted, ask_short, ask_unsound, ask_unknown, ask_tells}
 use Rattle.xics.proofs.ask_delivery.Goals as goal
 

@@ -1,8 +1,6 @@
 -- `xics::ask_word` meets its contract. Assumes nothing.
-use mathlib.Core.Path.{◌≡◌, sym, ◌∙◌}
-use borrow.Author.Tests.{not-true, not-false}
-use borrow.Author.Rules.{rules}
-use Rattle.xics.proofs.Passes.{word_small, word_passes}
+use mathlib.Core.Path.{sym, ◌∙◌}
+use Rattle.xics.proofs.Passes.{word_passes}
 use Rattle.xics.proofs.Laws.{counted, get_short, get_unsound, get_refuses, get_tells}
 use Rattle.xics.proofs.ask_word.Goals as goal
 

@@ -1,9 +1,5 @@
 -- `xics::carry_out` meets its contract. Assumes nothing.
-use Prim.Native.Nat.{ℕ}
 use native.Mathlib.Omega.{arith}
-use mathlib.Core.Path.{◌≡◌, ap, ap₂, ◌∙◌}
-use borrow.Author.Rules.{rules}
-use Rattle.xicsrows.specs.XicsLayout.{server, source, added, worded}
 use Rattle.xicsrows.proofs.Numbers.{registered_is}
 use Rattle.xics.proofs.Passes.{new_server_lem, new_source_lem, source_word_lem, server_word_lem}
 use Rattle.xics.proofs.carry_out.Goals as goal

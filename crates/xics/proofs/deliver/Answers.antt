@@ -1,6 +1,5 @@
 -- `xics::deliver` meets its contract. Assumes nothing.
 use native.Mathlib.Omega.{arith}
-use borrow.Author.Rules.{rules}
 use Rattle.xics.proofs.Laws.{counted, destination_known, yes, no}
 use Rattle.xics.proofs.deliver.Goals as goal
 

@@ -1,5 +1,4 @@
 -- `xics::fault` meets its contract. Assumes nothing.
-use borrow.Author.Rules.{rules}
 use Rattle.xics.proofs.fault.Goals as goal
 
 pub returns-in-AddServer : goal.returns-in-AddServer

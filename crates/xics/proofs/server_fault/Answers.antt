@@ -1,7 +1,4 @@
 -- `xics::server_fault` meets its contract. Assumes nothing.
-use mathlib.Core.Path.{◌≡◌, sym, ◌∙◌}
-use mathlib.Core.Bool.{true, false}
-use borrow.Author.Rules.{rules}
 use borrow.Author.Tests.{le-leb, lt-leb}
 use Rattle.xics.specs.Faults.{server_fault}
 use Rattle.xics.proofs.server_fault.Goals as goal

@@ -1,8 +1,7 @@
 -- `xics::server_word_fault` meets its contract. Assumes nothing.
 use mathlib.Core.Path.{◌≡◌}
 use mathlib.Core.Bool.{true, false}
-use borrow.Author.Rules.{rules}
-use borrow.Author.Tests.{eq-eqb, ne_eqb, not-true, not-false}
+use borrow.Author.Tests.{eq-eqb, ne_eqb}
 use Rattle.xics.proofs.Passes.{server_word_by}
 use Rattle.xics.proofs.server_word_fault.Goals as goal
 

@@ -1,5 +1,4 @@
 -- `xics::set_up` meets its contract. Assumes nothing.
-use borrow.Author.Rules.{rules}
 use Rattle.xics.proofs.Laws.{setup_short, setup_clears}
 use Rattle.xics.proofs.set_up.Goals as goal
 

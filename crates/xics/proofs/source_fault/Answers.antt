@@ -1,8 +1,7 @@
 -- `xics::source_fault` meets its contract. Assumes nothing.
 use mathlib.Core.Path.{◌≡◌}
 use mathlib.Core.Bool.{true, false}
-use borrow.Author.Rules.{rules}
-use borrow.Author.Tests.{le-leb, lt-leb, not-true, not-false}
+use borrow.Author.Tests.{le-leb, lt-leb}
 use Rattle.xics.specs.Faults.{source_fault}
 use Rattle.xics.proofs.source_fault.Goals as goal
 

@@ -1,8 +1,7 @@
 -- `xics::word_fault` meets its contract. Assumes nothing.
 use mathlib.Core.Path.{◌≡◌}
 use mathlib.Core.Bool.{true, false}
-use borrow.Author.Rules.{rules}
-use borrow.Author.Tests.{eq-eqb, ne_eqb, not-true, not-false}
+use borrow.Author.Tests.{eq-eqb, ne_eqb}
 use Rattle.xics.specs.Faults.{word_fault}
 use Rattle.xics.proofs.word_fault.Goals as goal
 

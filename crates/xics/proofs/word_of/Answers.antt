@@ -1,5 +1,4 @@
 -- `xics::word_of` meets its contract. Assumes nothing.
-use borrow.Author.Rules.{rules}
 use Rattle.xicsrows.proofs.Numbers.{registered_is}
 use Rattle.xics.proofs.Laws.{word_is}
 use Rattle.xics.proofs.word_of.Goals as goal

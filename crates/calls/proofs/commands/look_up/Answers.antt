@@ -1,5 +1,3 @@
-use borrow.Author.Tests.{not-true, not-false}
-use borrow.Author.Rules.{rules}
 use Rattle.mapping.proofs.Sized.{kept_sized}
 use Rattle.calls.proofs.Boxes.{look_gated, look_tried}
 use Rattle.calls.proofs.commands.look_up.Goals as goal

@@ -1,5 +1,3 @@
-use borrow.Author.Tests.{not-true, not-false}
-use borrow.Author.Rules.{rules}
 use Rattle.calls.proofs.Boxes.{gated, tried}
 use Rattle.calls.proofs.commands.map_collection.Goals as goal
 

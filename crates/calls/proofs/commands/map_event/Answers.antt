@@ -1,5 +1,3 @@
-use borrow.Author.Tests.{not-true, not-false}
-use borrow.Author.Rules.{rules}
 use Rattle.mapping.proofs.Sized.{kept_sized}
 use Rattle.calls.proofs.Boxes.{gated, tried}
 use Rattle.calls.proofs.commands.map_event.Goals as goal

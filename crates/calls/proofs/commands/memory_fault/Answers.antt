@@ -1,5 +1,4 @@
 -- `calls::commands::memory_fault` meets its contract. Assumes nothing.
-use borrow.Author.Rules.{rules}
 use Rattle.calls.proofs.Boxes.{fault_length, fault_early, fault_unplaced, fault_running, fault_none}
 use Rattle.calls.proofs.commands.memory_fault.Goals as goal
 

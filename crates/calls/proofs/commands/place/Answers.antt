@@ -1,4 +1,3 @@
-use borrow.Author.Rules.{rules}
 use Rattle.calls.proofs.Boxes.{place_early, place_refused, place_done}
 use Rattle.calls.proofs.commands.place.Goals as goal
 

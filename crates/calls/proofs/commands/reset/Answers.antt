@@ -1,4 +1,3 @@
-use borrow.Author.Rules.{rules}
 use Rattle.calls.proofs.Boxes.{reset_width, reset_early, reset_running, reset_done}
 use Rattle.calls.proofs.commands.reset.Goals as goal
 

@@ -1,6 +1,5 @@
 use borrow.Author.Tests.{eq-eqb, ne_eqb}
 use Rattle.calls.specs.Groups.{its_get}
-use borrow.Author.Rules.{rules}
 use Rattle.calls.proofs.groups.its_get.Goals as goal
 
 pub returns-then-group-eq0 : goal.returns-then-group-eq0

@@ -1,7 +1,6 @@
 use borrow.Author.Tests.{eq-eqb, ne_eqb}
 use Rattle.frames.proofs.Steps.{refusing}
 use Rattle.calls.specs.Groups.{its_set}
-use borrow.Author.Rules.{rules}
 use Rattle.calls.proofs.groups.its_set.Goals as goal
 
 pub returns-then-group-eq0 : goal.returns-then-group-eq0

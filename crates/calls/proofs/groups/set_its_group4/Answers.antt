@@ -1,7 +1,6 @@
 use borrow.Author.Tests.{eq-eqb, ne_eqb}
 use Rattle.frames.proofs.Steps.{refusing}
 use Rattle.calls.specs.Groups.{set_its_group4}
-use borrow.Author.Rules.{rules}
 use Rattle.calls.proofs.groups.set_its_group4.Goals as goal
 
 pub returns-then-width-ne0 : goal.returns-then-width-ne0
