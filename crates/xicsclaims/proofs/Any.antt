@@ -1,12 +1,11 @@
 -- `any`: every call answers 0 or more or one of five errnos, and a refusal changes nothing. Assumes nothing.
 use Prim.Native.Nat.{ℕ, ◌^◌}
-use mathlib.Core.Path.{◌≡◌, refl}
-use mathlib.Core.Bool.{true, ◌||◌, not}
-use mathlib.Core.List.{List, [], ◌∷◌}
+use mathlib.Core.Path.{refl}
+use mathlib.Core.Bool.{◌||◌, not}
+use mathlib.Core.List.{List}
 use lib.ListN.{length}
 use lib.Dec.{eqb, leb}
-use borrow.Author.Tests.{eqb-false, ne_eqb}
-use Rattle.answers.specs.Errno.{among}
+use borrow.Author.Tests.{eqb-false}
 use Rattle.guest.specs.declared.Reading.{Reading}
 use Rattle.calls.specs.Call.{Reply, refused, untold, value_of, given, answered}
 use Rattle.step.specs.Step.{writes, gives, tells}
@@ -21,18 +20,8 @@ use Rattle.xics.specs.Calls.{change_fault, changes_xics, set_up_xics, asks_word,
 use Rattle.xics.specs.XicsStep.{XicsCall, xics_step, xics_len, xics_setup, add_server, add_source, set_source, set_server, get_source, get_server, deliverable}
 use Rattle.xicsclaims.specs.XicsClaims.{Answers, succeeds, refuses}
 use Rattle.kept.proofs.Choice.{chosen, choose_by}
+use Rattle.xicsclaims.proofs.Five.{Known, of_five}
 use Rattle.xicsclaims.proofs.Guard.{guard}
-
--- §14.14: the five, and one of them or none
-abbrev five : List ℕ
-five = 2 ∷ 12 ∷ 14 ∷ 17 ∷ 22 ∷ []
-
-abbrev Known : ℕ → Type 0
-Known e = among (0 ∷ five) e ≡ true
-
--- one that is not none is one of the five
-of_five : (e : ℕ) → Known e → (e ≡ 0 → ⊥) → among five e ≡ true
-of_five e h d = rw (ne_eqb e 0 d) at h
 
 -- the fault of a get
 word_known : (n width : ℕ) (rows : List Row) → Known (word_fault n width rows)

@@ -1,4 +1,5 @@
 pub mod Guard
+pub mod Five
 pub mod Any
 pub mod Kept
 pub mod Fresh
