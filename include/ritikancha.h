@@ -37,9 +37,9 @@
  * start + i, with the start that rk_setup was told. Numbers are compared whole, all 64 bits of them, and sums of them never wrap. A frame
  * may lie over guest memory: frames are compared with frames, tables with tables (§3.4).
  *
- * STACK. Measured on x86-64, not proved: a mapping command, rk_its_place and RESET take up to 74 KiB of stack, rk_its_lookup 46, other
- * calls that write the state 31, calls that read it 14, rk_its_restore 12 and rk_its_explain no more than that, rk_setup 10, rk_its_save
- * and the calls on an XICS less than 1.
+ * STACK. Measured on x86-64, not proved: a mapping command, rk_its_place and RESET take up to 96 KiB of stack, other calls that write the
+ * state 40, rk_its_lookup 29, calls that read the state 16, rk_its_restore 12 and rk_its_explain no more than that, rk_setup 10,
+ * rk_its_save and the calls on an XICS less than 1.
  *
  * LIMITS (§1.6). 64 VCPUs and 32 redistributor regions; 16 collections, 32 devices, 1,024 events over all devices. Not here: §1.1. Of an
  * XICS: 64 servers and 64 sources (§14.1).

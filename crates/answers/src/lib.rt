@@ -2,30 +2,37 @@
 
 ghost use Rattle.std.specs.Prelude.{◌≡◌, ◌<◌, ◌^◌};
 ghost use Rattle.answers.specs.Errno.{errnos};
+ghost use Rattle.answers.specs.Number.{number};
 ghost use Rattle.answers.specs.Answer.{refusal, done};
 
 // The errnos of the refusals (§2.2). Their definitions in the contracts say when each is given.
-#[derive(Clone, Copy)]
-pub struct Errno;
+#[derive(Clone, Copy, Debug, PartialEq, Eq)]
+pub enum Errno {
+    ENOENT = 2,
+    ENXIO = 6,
+    E2BIG = 7,
+    ENOMEM = 12,
+    EFAULT = 14,
+    EBUSY = 16,
+    EEXIST = 17,
+    ENODEV = 19,
+    EINVAL = 22,
+}
 
 impl Errno {
-    pub const ENOENT: u64 = 2;
+    // The number of errno.h.
+    pub fn number(self) -> u64
+        ensures { result ≡ number self }
+    {
+        self as u64
+    }
 
-    pub const ENXIO: u64 = 6;
-
-    pub const E2BIG: u64 = 7;
-
-    pub const ENOMEM: u64 = 12;
-
-    pub const EFAULT: u64 = 14;
-
-    pub const EBUSY: u64 = 16;
-
-    pub const EEXIST: u64 = 17;
-
-    pub const ENODEV: u64 = 19;
-
-    pub const EINVAL: u64 = 22;
+    // The refusal by this errno.
+    pub fn refusal(self) -> i64
+        ensures { result ≡ refusal (number self) }
+    {
+        refuse(self.number())
+    }
 }
 
 // Every number above, so that each is proved to be the one that the contracts name.
@@ -33,15 +40,15 @@ pub fn table() -> [u64; 9]
     ensures { result ≡ errnos }
 {
     [
-        Errno::ENOENT,
-        Errno::ENXIO,
-        Errno::E2BIG,
-        Errno::ENOMEM,
-        Errno::EFAULT,
-        Errno::EBUSY,
-        Errno::EEXIST,
-        Errno::ENODEV,
-        Errno::EINVAL,
+        Errno::ENOENT.number(),
+        Errno::ENXIO.number(),
+        Errno::E2BIG.number(),
+        Errno::ENOMEM.number(),
+        Errno::EFAULT.number(),
+        Errno::EBUSY.number(),
+        Errno::EEXIST.number(),
+        Errno::ENODEV.number(),
+        Errno::EINVAL.number(),
     ]
 }
 

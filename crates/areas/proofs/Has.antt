@@ -54,17 +54,3 @@ module _ {A : Type 0} (p : A → Bool) where
   pub none_has : (l : List A) → All (λ x. p x ≡ false) l → has l ≡ false
   none_has [] none = has_nil
   none_has (x ∷ l) (more e r) = has_cons x l ∙ rw e (none_has l r)
-
-  -- a loop over the rows of a table: what is left from the row at i on
-  module _ (d : A) (n : ℕ) (l : List A) (i : ℕ) (f : n ≤ length l) where
-    turn : i < n → has (drop i (take n l)) ≡ (p (get_or l i d) || has (drop (i + 1) (take n l)))
-    turn h = ap has (rows_left d n l i f h) ∙ has_cons (get_or l i d) (drop (i + 1) (take n l))
-
-    pub has_here : i < n → p (get_or l i d) ≡ true → has (drop i (take n l)) ≡ true
-    has_here h t = turn h ∙ ap (λ (b : Bool). b || has (drop (i + 1) (take n l))) t
-
-    pub has_later : i < n → p (get_or l i d) ≡ false → has (drop i (take n l)) ≡ has (drop (i + 1) (take n l))
-    has_later h t = turn h ∙ ap (λ (b : Bool). b || has (drop (i + 1) (take n l))) t
-
-    pub has_end : n ≤ i → has (drop i (take n l)) ≡ false
-    has_end h = ap has (rows_end n l i f h) ∙ has_nil

@@ -1,7 +1,8 @@
 // Areas of addresses: whether two share a byte, and the first of a table of areas that one strikes.
 #![tactic(auto)]
 
-ghost use Rattle.std.specs.Prelude.{◌≡◌, ◌++◌, ◌∷◌, [], ◌+◌, ◌≤◌, ◌<◌};
+ghost use Rattle.std.specs.Prelude.{◌≡◌, ◌++◌, ◌∷◌, [], ◌+◌, ◌≤◌, ◌<◌, position};
+ghost use Rattle.std.specs.List.{list_any};
 ghost use Rattle.areas.specs.Area.{overlaps, ends_by, inside, struck, strikes, areas};
 
 // §3.4: a run of addresses, by its start and its size in bytes.
@@ -11,7 +12,8 @@ pub struct Area {
     pub size: u64,
 }
 
-// A table of areas: room for every frame that can stand, and for every table in memory.
+// A table of areas: room for every frame that can stand, and for every table in memory. An array and a count, since there is no heap. The
+// clauses bound the count, and no ghost field does: the crates above meet these clauses as they are.
 #[derive(Clone, Copy)]
 pub struct Areas {
     pub rows: [Area; 36],
@@ -23,25 +25,17 @@ pub fn overlaps(a: Area, b: Area) -> bool
     ensures { result ≡ overlaps a b }
 {
     if a.start <= b.start {
-        if b.start - a.start < a.size {
-            return 0 < b.size;
-        }
-        return false;
+        b.start - a.start < a.size && 0 < b.size
+    } else {
+        a.start - b.start < b.size && 0 < a.size
     }
-    if a.start - b.start < b.size {
-        return 0 < a.size;
-    }
-    false
 }
 
 // Whether an area ends at or below a limit (§2.10).
 pub fn ends_by(limit: u64, a: Area) -> bool
     ensures { result ≡ ends_by limit a }
 {
-    if a.start <= limit {
-        return a.size <= limit - a.start;
-    }
-    false
+    a.start <= limit && a.size <= limit - a.start
 }
 
 // Whether an area is wholly inside another.
@@ -52,10 +46,29 @@ pub fn inside(whole: Area, a: Area) -> bool
         return false;
     }
     let before = a.start - whole.start;
-    if whole.size < before {
-        return false;
+    before <= whole.size && a.size <= whole.size - before
+}
+
+impl Areas {
+    // The areas that stand in the table.
+    fn as_slice(&self) -> &[Area]
+        requires { self.now.count ≤ 36 }
+        ensures { result.now ≡ areas self.now }
+    {
+        &self.rows[..self.count]
     }
-    a.size <= whole.size - before
+}
+
+fn first_struck(rows: &[Area], a: Area) -> Option<usize>
+    ensures { result ≡ position (overlaps a) rows.now }
+{
+    rows.iter().position(|b| overlaps(a, *b))
+}
+
+fn any_struck(rows: &[Area], a: Area) -> bool
+    ensures { result ≡ list_any (overlaps a) rows.now }
+{
+    rows.iter().any(|b| overlaps(a, *b))
 }
 
 // The index of the first of a table that an area overlaps, or the number of its rows.
@@ -63,16 +76,7 @@ pub fn struck(t: Areas, a: Area) -> usize
     requires { t.count ≤ 36 }
     ensures { result ≡ struck (areas t) a }
 {
-    let n = t.count;
-    let mut i: usize = 0;
-    while i < n {
-        let b = t.rows[i];
-        if overlaps(a, b) {
-            return i;
-        }
-        i += 1;
-    }
-    n
+    first_struck(t.as_slice(), a).unwrap_or(t.count)
 }
 
 // Whether an area overlaps one of a table.
@@ -80,7 +84,7 @@ pub fn strikes(t: Areas, a: Area) -> bool
     requires { t.count ≤ 36 }
     ensures { result ≡ strikes (areas t) a }
 {
-    struck(t, a) < t.count
+    any_struck(t.as_slice(), a)
 }
 
 // A table with no area.

@@ -19,7 +19,8 @@ ghost use Rattle.banks.specs.Bank.{
 use fields::{field_get, field_put};
 use guest::Bank;
 
-// An edge interrupt is pending by its latch alone: what its line holds now is no news.
+// An edge interrupt is pending by its latch alone: what its line holds now is no news. The answer is 0 or 1, a number as in the definition and
+// at the C interface (§4.4).
 pub fn pending(b: Bank, i: u32) -> u64
     requires { i < 32 }
     ensures { result ≡ pending b i }

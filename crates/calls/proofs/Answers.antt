@@ -3,7 +3,7 @@ use Prim.Native.Nat.{ℕ, ◌<◌}
 use mathlib.Core.Path.{◌≡◌, refl}
 use mathlib.Core.Bool.{true, ◌||◌}
 use lib.Dec.{eqb}
-use Rattle.guest.specs.declared.Reading.{Reading}
+use Rattle.guest.specs.Machine.{Reading}
 use Rattle.guest.specs.Machine.{Machine, Result, refuse, is_running}
 use Rattle.kept.specs.Good.{listed}
 use Rattle.kept.proofs.Choice.{chosen}

@@ -1,49 +1,81 @@
 -- From what the code of an ITS command did to what its definition says.
 use Prim.Native.Nat.{ℕ}
-use mathlib.Core.Path.{◌≡◌, refl, sym, ◌∙◌, subst}
+use native.Mathlib.Omega.{arith}
+use mathlib.Core.Path.{◌≡◌, refl, ap}
 use mathlib.Core.Bool.{Bool, true, false}
 use mathlib.Core.List.{List}
 use borrow.Author.Tests.{eq-eqb, ne_eqb}
+use Rattle.std.specs.Prelude.{Result, Ok, Err}
+use Rattle.answers.specs.declared.Errno.{Errno}
+use Rattle.answers.specs.declared.Errno.TheVariants.{ENXIO, EFAULT, EBUSY}
+use Rattle.answers.specs.Number.{number}
 use Rattle.lists.specs.Rows.{choose}
 use Rattle.guest.specs.declared.Guest.{Guest}
-use Rattle.guest.specs.declared.Reading.{Reading}
 use Rattle.guest.specs.declared.Tables.{Tables}
 use Rattle.guest.specs.declared.Memory.{Memory}
 use Rattle.guest.specs.declared.Control.{Control}
 use Rattle.guest.specs.Machine.{Machine, Held, view, no_tables}
+use Rattle.guest.specs.Returned.{reading}
+use Rattle.guest.proofs.Returned.{number_not_0}
 use Rattle.layout.specs.Layout.{memory_of, control_of, tables_of, decode}
 use Rattle.mapping.specs.declared.Mapping.{Mapping}
-use Rattle.mapping.specs.declared.Remapped.{Remapped}
 use Rattle.mapping.specs.Mapped.{Mapped, MapResult, Maps, Holds, rows, empty}
 use Rattle.mapping.specs.Commands.{place_fault, lookup}
 use Rattle.mapping.specs.MapRules.{MapKept}
-use Rattle.calls.specs.declared.BoxOutcome.{BoxOutcome}
-use Rattle.calls.specs.Commands.{BoxDoes, refuse_box, ready, placed_at, on_mapping, place, reset, lookup_step, memory_fault}
+use Rattle.calls.specs.declared.Contents.{Contents}
+use Rattle.calls.specs.Commands.{BoxDoes, BoxResult, refuse_box, ready, placed_at, on_mapping, place, reset, lookup_step, memory_fault}
+
+-- a refusal
+refused : (m : Machine) (k : Mapped) (e : Errno) → BoxDoes m k (Err e) (refuse_box m k (number e))
+refused m k e = record { is = refl; held = tt }
 
 -- a mapping command before the ITS is ready, and once it is
-module _ {o : BoxOutcome} (r : MapResult) (m : Machine) (k : Mapped) {b : Bool} (p : b ≡ ready m) where
-  pub gated : b ≡ false → BoxDoes o (refuse_box m k 6) → BoxDoes o (on_mapping r m k)
-  unfolding on_mapping
-  gated q d = subst (λ (t : Bool). BoxDoes o (choose t (refuse_box m r.next r.errno) (refuse_box m k 6))) (sym q ∙ p) d
+module _ (r : MapResult) (m : Machine) (k : Mapped) where
+  abbrev stepped : MapResult → BoxResult
+  stepped x = record { errno = x.errno; next = record { machine = m; mapped = x.next } }
 
-  pub tried : {x : Remapped} → b ≡ true → Maps x r → BoxDoes o (refuse_box m (rows x.mapping) x.errno)
-      → BoxDoes o (on_mapping r m k)
+  pub gated : {o : Result Contents Errno} (e : Errno) → o ≡ Err e → number e ≡ choose (ready m) 0 6 → BoxDoes m k o (on_mapping r m k)
   unfolding on_mapping
-  tried q h d =
-      subst (λ (t : Bool). BoxDoes o (choose t (refuse_box m r.next r.errno) (refuse_box m k 6))) (sym q ∙ p)
-      (record { errno = d.errno ∙ h.errno; guest = d.guest; mapping = d.mapping ∙ h.is; held = d.held; within = d.within })
+  gated e p = rw p (by (ready m))
+    where
+      by : (b : Bool) → ◌≡◌ {A = ℕ} (number e) (choose b 0 6) → BoxDoes m k (Err e) (choose b (stepped r) (refuse_box m k 6))
+      by true q = absurd (number_not_0 e q)
+      by false q = record { is = ap (refuse_box m k) q; held = tt }
+
+  pub tried_refused : {o : Result Contents Errno} (e : Errno) → o ≡ Err e → ◌≡◌ {A = ℕ} 0 (choose (ready m) 0 6) → Maps k (Err e) r → BoxDoes m k o (on_mapping r m k)
+  unfolding on_mapping
+  tried_refused e p q h = rw p (by (ready m) q)
+    where
+      by : (b : Bool) → ◌≡◌ {A = ℕ} 0 (choose b 0 6) → BoxDoes m k (Err e) (choose b (stepped r) (refuse_box m k 6))
+      by true q = record { is = ap stepped h.is; held = tt }
+      by false q = absurd (omega (arith, q))
+
+pub tried : (r : MapResult) (g : Guest) (k : Mapped) (x : Mapping) → Held g → ◌≡◌ {A = ℕ} 0 (choose (ready (view g)) 0 6) → Maps k (Ok x) r
+    → BoxDoes (view g) k (Ok (record { guest = g; mapping = x })) (on_mapping r (view g) k)
+unfolding on_mapping
+tried r g k x d q h = by (ready (view g)) q
+  where
+    by : (b : Bool) → ◌≡◌ {A = ℕ} 0 (choose b 0 6) → BoxDoes (view g) k (Ok (record { guest = g; mapping = x })) (choose b (stepped r (view g) k r) (refuse_box (view g) k 6))
+    by true q = record { is = ap (stepped r (view g) k) h.is; held = (d, h.within) }
+    by false q = absurd (omega (arith, q))
 
 -- lookup
-module _ {a : Reading} (device event : ℕ) (m : Machine) (k : Mapped) {b : Bool} (p : b ≡ ready m) where
-  pub look_gated : b ≡ false → a ≡ record { errno = 6; number = 0 } → a ≡ lookup_step device event m k
+module _ (o : Result ℕ Errno) (device event : ℕ) (m : Machine) (k : Mapped) where
+  pub look_gated : (e : Errno) → o ≡ Err e → number e ≡ choose (ready m) 0 6 → reading o ≡ lookup_step device event m k
   unfolding lookup_step
-  look_gated q e =
-      subst (λ (t : Bool). a ≡ choose t (lookup device event k) (record { errno = 6; number = 0 })) (sym q ∙ p) e
+  look_gated e p = rw p (by (ready m))
+    where
+      by : (b : Bool) → ◌≡◌ {A = ℕ} (number e) (choose b 0 6) → record { errno = number e; number = 0 } ≡ choose b (lookup device event k) (record { errno = 6; number = 0 })
+      by true q = absurd (number_not_0 e q)
+      by false q = λ i. record { errno = q i; number = 0 }
 
-  pub look_tried : b ≡ true → a ≡ lookup device event k → a ≡ lookup_step device event m k
+  pub look_tried : ◌≡◌ {A = ℕ} 0 (choose (ready m) 0 6) → reading o ≡ lookup device event k → reading o ≡ lookup_step device event m k
   unfolding lookup_step
-  look_tried q e =
-      subst (λ (t : Bool). a ≡ choose t (lookup device event k) (record { errno = 6; number = 0 })) (sym q ∙ p) e
+  look_tried q h = by (ready m) q
+    where
+      by : (b : Bool) → ◌≡◌ {A = ℕ} 0 (choose b 0 6) → reading o ≡ choose b (lookup device event k) (record { errno = 6; number = 0 })
+      by true q = h
+      by false q = absurd (omega (arith, q))
 
 -- what stands in the way of a save or a restore
 module _ (len : ℕ) (s : List ℕ) (r : Memory) (a : r ≡ memory_of s) where
@@ -89,44 +121,43 @@ module _ (g : Guest) (t : Tables) where
   tables_held h = record { regions = h.regions; vcpus = h.vcpus; shared = h.shared }
 
 -- placing
-module _ {o : BoxOutcome} (ds dp cs cp : ℕ) (m : Machine) (k : Mapped) where
-  pub place_early : (m.control.itsinit ≡ 1 → ⊥) → BoxDoes o (refuse_box m k 6) → BoxDoes o (place ds dp cs cp m k)
+module _ (ds dp cs cp : ℕ) (m : Machine) (k : Mapped) where
+  pub place_early : (m.control.itsinit ≡ 1 → ⊥) → BoxDoes m k (Err ENXIO) (place ds dp cs cp m k)
   unfolding place
-  place_early n d = rw (ne_eqb m.control.itsinit 1 n) d
+  place_early n = rw (ne_eqb m.control.itsinit 1 n) (refused m k ENXIO)
 
-  pub place_refused : {e : ℕ} → m.control.itsinit ≡ 1 → e ≡ place_fault (placed_at ds dp) (placed_at cs cp) m k → (e ≡ 0 → ⊥)
-      → BoxDoes o (refuse_box m k e) → BoxDoes o (place ds dp cs cp m k)
+  pub place_refused : {o : Result Contents Errno} (e : Errno) → o ≡ Err e → m.control.itsinit ≡ 1 → number e ≡ place_fault (placed_at ds dp) (placed_at cs cp) m k
+      → BoxDoes m k o (place ds dp cs cp m k)
   unfolding place
-  place_refused {e} i q n d = rw (eq-eqb m.control.itsinit 1 i, ← q, ne_eqb e 0 n) d
+  place_refused e p i q = rw p (rw (eq-eqb m.control.itsinit 1 i, ← q, ne_eqb (number e) 0 (number_not_0 e)) (refused m k e))
 
-pub place_done : (g : Guest) (k : Mapping) → MapKept g k → (ds dp cs cp : ℕ) {e : ℕ} → g.control.itsinit ≡ 1
-    → e ≡ place_fault (placed_at ds dp) (placed_at cs cp) (view g) (rows k) → e ≡ 0
-    → BoxDoes (record { errno = 0; guest = tables_put g (record { devices = placed_at ds dp; collections = placed_at cs cp }); mapping = k })
+pub place_done : (g : Guest) (k : Mapping) → MapKept g k → (ds dp cs cp : ℕ) → g.control.itsinit ≡ 1
+    → 0 ≡ place_fault (placed_at ds dp) (placed_at cs cp) (view g) (rows k)
+    → BoxDoes (view g) (rows k) (Ok (record { guest = tables_put g (record { devices = placed_at ds dp; collections = placed_at cs cp }); mapping = k }))
     (place ds dp cs cp (view g) (rows k))
 unfolding place
-place_done g k h ds dp cs cp {e} i q z =
-    rw (eq-eqb g.control.itsinit 1 i, ← q, eq-eqb e 0 z)
-    (record { errno = refl; guest = refl; mapping = refl; held = tables_held g _ h.guest.held; within = h.within })
+place_done g k h ds dp cs cp i q =
+    rw (eq-eqb g.control.itsinit 1 i, ← q)
+    (record { is = refl; held = (tables_held g _ h.guest.held, h.within) })
 
 -- RESET
-module _ {o : BoxOutcome} (width : ℕ) (m : Machine) (k : Mapped) where
-  pub reset_width : (width ≡ 0 → ⊥) → BoxDoes o (refuse_box m k 14) → BoxDoes o (reset width m k)
+module _ (width : ℕ) (m : Machine) (k : Mapped) where
+  pub reset_width : (width ≡ 0 → ⊥) → BoxDoes m k (Err EFAULT) (reset width m k)
   unfolding reset
-  reset_width n d = rw (ne_eqb width 0 n) d
+  reset_width n = rw (ne_eqb width 0 n) (refused m k EFAULT)
 
-  pub reset_early : width ≡ 0 → (m.control.itsinit ≡ 1 → ⊥) → BoxDoes o (refuse_box m k 6) → BoxDoes o (reset width m k)
+  pub reset_early : width ≡ 0 → (m.control.itsinit ≡ 1 → ⊥) → BoxDoes m k (Err ENXIO) (reset width m k)
   unfolding reset
-  reset_early z n d = rw (eq-eqb width 0 z, ne_eqb m.control.itsinit 1 n) d
+  reset_early z n = rw (eq-eqb width 0 z, ne_eqb m.control.itsinit 1 n) (refused m k ENXIO)
 
-  pub reset_running : width ≡ 0 → m.control.itsinit ≡ 1 → m.control.running ≡ 1 → BoxDoes o (refuse_box m k 16)
-      → BoxDoes o (reset width m k)
+  pub reset_running : width ≡ 0 → m.control.itsinit ≡ 1 → m.control.running ≡ 1 → BoxDoes m k (Err EBUSY) (reset width m k)
   unfolding reset
-  reset_running z i u d = rw (eq-eqb width 0 z, eq-eqb m.control.itsinit 1 i, eq-eqb m.control.running 1 u) d
+  reset_running z i u = rw (eq-eqb width 0 z, eq-eqb m.control.itsinit 1 i, eq-eqb m.control.running 1 u) (refused m k EBUSY)
 
 pub reset_done : (g : Guest) (k : Mapping) → MapKept g k → (width : ℕ) (x : Mapping) → Holds x empty → width ≡ 0
     → g.control.itsinit ≡ 1 → (g.control.running ≡ 1 → ⊥)
-    → BoxDoes (record { errno = 0; guest = tables_put g no_tables; mapping = x }) (reset width (view g) (rows k))
+    → BoxDoes (view g) (rows k) (Ok (record { guest = tables_put g no_tables; mapping = x })) (reset width (view g) (rows k))
 unfolding reset
 reset_done g k h width x e z i u =
     rw (eq-eqb width 0 z, eq-eqb g.control.itsinit 1 i, ne_eqb g.control.running 1 u)
-    (record { errno = refl; guest = refl; mapping = e.is; held = tables_held g _ h.guest.held; within = e.within })
+    (record { is = ap (λ (y : Mapped). record { errno = 0; next = record { machine = view (tables_put g no_tables); mapped = y } }) e.is; held = (tables_held g _ h.guest.held, e.within) })

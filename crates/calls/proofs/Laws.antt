@@ -1,19 +1,26 @@
 -- The ends of a call on lent bytes, and what the test of the state tells.
-use Prim.Native.Nat.{ℕ, ◌<◌}
+use Prim.Native.Nat.{ℕ}
 use native.Mathlib.Omega.{arith}
-use mathlib.Core.Path.{◌≡◌, sym, ap, ap₂, ◌∙◌, subst}
+use mathlib.Core.Path.{◌≡◌, refl, sym, ap, ap₂, ◌∙◌, subst}
 use mathlib.Core.Bool.{Bool, true, false}
 use mathlib.Core.List.{List, [], ◌∷◌}
-use lib.IntN.{ℤ}
 use lib.ListN.{length}
 use lib.Seq.{take_all}
-use Rattle.words.specs.Words.{le, le_at, bytes_of}
-use borrow.Author.Tests.{eq-eqb, ne_eqb}
-use Rattle.answers.specs.Answer.{refusal, done}
+use Rattle.words.specs.Words.{le, le_at}
+use borrow.Author.Tests.{eq-eqb, ne_eqb, eqb-true}
+use lib.Dec.{eqb}
+use Rattle.std.specs.Prelude.{Result, Ok, Err}
+use Rattle.answers.specs.declared.Errno.{Errno}
+use Rattle.answers.specs.declared.Errno.TheVariants.{EFAULT, EINVAL}
+use Rattle.answers.specs.Number.{number}
+use Rattle.lists.specs.Rows.{choose}
+use Rattle.answers.specs.Answer.{done}
 use Rattle.guest.specs.declared.Guest.{Guest}
-use Rattle.guest.specs.declared.Outcome.{Outcome}
-use Rattle.guest.specs.declared.Reading.{Reading}
-use Rattle.guest.specs.Machine.{Machine, Result, Held, Does, view, viewed, fresh}
+use Rattle.guest.specs.Machine.{Reading}
+use Rattle.guest.specs.Machine as machine
+use Rattle.guest.specs.Machine.{Machine, Held, view, fresh}
+use Rattle.guest.specs.Returned.{Does, reading}
+use Rattle.guest.proofs.Returned.{number_not_0}
 use Rattle.areas.proofs.Tests.{split}
 use Rattle.rules.specs.Rules.{rules, memory_ok, Kept}
 use Rattle.mapping.specs.declared.Mapping.{Mapping}
@@ -23,13 +30,13 @@ use Rattle.layout.specs.Layout.{size, decode, stored, counts_ok}
 use Rattle.maplayout.specs.MapLayout.{decode_map, stored_map, map_counts_ok}
 use Rattle.calls.specs.declared.Change.{Change}
 use Rattle.calls.specs.declared.Question.{Question}
-use Rattle.calls.specs.declared.BoxOutcome.{BoxOutcome}
+use Rattle.calls.specs.declared.Contents.{Contents}
 use Rattle.calls.specs.declared.Command.{Command}
 use Rattle.calls.specs.Steps.{change_step, ask_step}
-use Rattle.calls.specs.Commands.{BoxResult, BoxDoes, refuse_box, command_step, lookup_step}
+use Rattle.calls.specs.Commands.{BoxResult, BoxDoes, command_step, lookup_step}
 use Rattle.state.specs.Sound.{sound}
-use Rattle.calls.specs.Call.{changes, asks, commands, looks, set_up, value_of, given, Gives, settled, settled_box}
-use Rattle.calls.proofs.Answers.{change_small, command_small}
+use Rattle.calls.specs.Signed.{signed}
+use Rattle.calls.specs.Call.{Reply, refused, guarded, untold, changes, asks, commands, looks, set_up, value_of, given, Gives, settled, settled_box}
 
 -- The test of the state.
 
@@ -72,122 +79,126 @@ module _ (s : List ℕ) (u : sound s ≡ true) where
   pub box_kept : (g : Guest) (k : Mapping) → (view g ≡ decode s) × Held g → (rows k ≡ decode_map s) × Within k → MapKept g k
   box_kept g k v w = record { guest = guest_kept g v; within = w.1; rules = ap₂ map_rules v.0 w.0 ∙ parts.mapping }
 
+-- How every call but set-up begins.
+
+module _ (s : List ℕ) where
+  pub check_short : (length s ≡ size → ⊥) → 14 ≡ guarded (λ e. e) 0 s
+  check_short h = rw (ne_eqb (length s) size h)
+
+  pub check_unsound : length s ≡ size → sound s ≡ false → 22 ≡ guarded (λ e. e) 0 s
+  check_unsound h q = rw (eq-eqb (length s) size h, q)
+
+  pub check_done : length s ≡ size → sound s ≡ true → 0 ≡ guarded (λ e. e) 0 s
+  check_done h q = rw (eq-eqb (length s) size h, q)
+
+  -- what the test tells once it is passed
+  pub checked : 0 ≡ guarded (λ e. e) 0 s → (length s ≡ size) × (sound s ≡ true)
+  checked = by (eqb (length s) size) (sound s) refl
+    where
+      by : (a b : Bool) → eqb (length s) size ≡ a → ◌≡◌ {A = ℕ} 0 (choose a (choose b 0 22) 14) → (length s ≡ size) × (b ≡ true)
+      by true true p q = (eqb-true (length s) size p, refl)
+      by true false p q = absurd (omega (arith, q))
+      by false b p q = absurd (omega (arith, q))
+
+  module _ {A : Type 0} (refuse : ℕ → A) (go : A) where
+    pub stopped : (e : Errno) → number e ≡ guarded (λ e. e) 0 s → guarded refuse go s ≡ refuse (number e)
+    stopped e = by (eqb (length s) size) (sound s)
+      where
+        by : (a b : Bool) → number e ≡ choose a (choose b 0 22) 14 → choose a (choose b go (refuse 22)) (refuse 14) ≡ refuse (number e)
+        by true true q = absurd (number_not_0 e q)
+        by true false q = ap refuse (sym q)
+        by false b q = ap refuse (sym q)
+
+    pub passed : 0 ≡ guarded (λ e. e) 0 s → guarded refuse go s ≡ go
+    passed k = rw (eq-eqb (length s) size (checked k).0, (checked k).1)
+
+-- a call that is refused, and one that is done
+pub gives_refused : {r : Reply} (s : List ℕ) (e : Errno) {o : Result Unit Errno} → o ≡ Err e → r ≡ refused s (number e) → Gives r (signed o) s
+gives_refused s e p q = rw (p, q) (record { number = refl; left = refl })
+
+pub gives_done : {r : Reply} (t u : List ℕ) → r ≡ record { answer = done 0; lent = t } → u ≡ t → Gives r (done 0) u
+gives_done t u q p = rw (q, p) (record { number = refl; left = refl })
+
+pub reads_refused : (e : Errno) {r : Reading} {o : Result ℕ Errno} → o ≡ Err e → r ≡ untold (number e) → reading o ≡ r
+reads_refused e p q = rw p (sym q)
+
 -- A changing call.
 
 module _ (c : Change) (s : List ℕ) where
-  pub short : (length s ≡ size → ⊥) → Gives (changes c s) (refusal 14) s
+  pub refuses : (e : Errno) {o : Result Unit Errno} → o ≡ Err e → number e ≡ guarded (λ e. e) 0 s → Gives (changes c s) (signed o) s
   unfolding changes
-  short h = let e = ne_eqb (length s) size h in record { number = rw e; left = rw e }
+  refuses e p q = gives_refused s e p (stopped s (refused s) (settled s (change_step c (decode s))) e q)
 
-  module _ (h : length s ≡ size) where
-    pub unsound : sound s ≡ false → Gives (changes c s) (refusal 22) s
+  module _ (k : 0 ≡ guarded (λ e. e) 0 s) (g : Guest) (v : view g ≡ decode s) where
+    called : {r : machine.Result} → r ≡ change_step c (view g) → changes c s ≡ settled s r
     unfolding changes
-    unsound q = let l = eq-eqb (length s) size h in record { number = rw (l, q); left = rw (l, q) }
+    called {r} d = passed s (refused s) (settled s (change_step c (decode s))) k ∙ ap (settled s) (sym (d ∙ ap (change_step c) v))
 
-    module _ (q : sound s ≡ true) (g : Guest) (v : view g ≡ decode s) (o : Outcome) (d : Does o (change_step c (view g))) where
-      result : viewed o ≡ change_step c (decode s)
-      result = d.is ∙ ap (change_step c) v
+    pub step_refuses : (e : Errno) {o : Result Unit Errno} → o ≡ Err e → Does (view g) (Err e) (change_step c (view g)) → Gives (changes c s) (signed o) s
+    step_refuses e p d = gives_refused s e p (called d.is ∙ rw (ne_eqb (number e) 0 (number_not_0 e)))
 
-      called : changes c s ≡ settled s (viewed o)
-      unfolding changes
-      called = let l = eq-eqb (length s) size h in rw (l, q) (ap (settled s) (sym result))
-
-      pub errno_small : o.errno < 4096
-      errno_small = rw (ap (λ (r : Result). r.errno) result) (change_small (decode s) c)
-
-      pub refuses : (r : ℤ) → (o.errno ≡ 0 → ⊥) → r ≡ refusal o.errno → Gives (changes c s) r s
-      refuses r n p = let f = ne_eqb o.errno 0 n in record { number = rw (called, f) p; left = rw (called, f) }
-
-      pub settles : (t : List ℕ) → o.errno ≡ 0 → t ≡ stored (view o.guest) s → Gives (changes c s) (done 0) t
-      settles t n w = let f = eq-eqb o.errno 0 n in record { number = rw (called, f); left = rw (called, f) w }
+    pub settles : (next : Guest) (t : List ℕ) → Does (view g) (Ok next) (change_step c (view g)) → t ≡ stored (view next) s → Gives (changes c s) (done 0) t
+    settles next t d w = gives_done (stored (view next) s) t (called d.is) w
 
 -- A question.
 
 module _ (q : Question) (s : List ℕ) where
-  pub ask_short : (r : Reading) → (length s ≡ size → ⊥) → r ≡ record { errno = 14; number = 0 } → r ≡ asks q s
+  pub ask_refuses : (e : Errno) {o : Result ℕ Errno} → o ≡ Err e → number e ≡ guarded (λ e. e) 0 s → reading o ≡ asks q s
   unfolding asks
-  ask_short r h e = let l = ne_eqb (length s) size h in rw l e
+  ask_refuses e p k = reads_refused e p (stopped s untold (ask_step q (decode s)) e k)
 
-  module _ (h : length s ≡ size) where
-    pub ask_unsound : (r : Reading) → sound s ≡ false → r ≡ record { errno = 22; number = 0 } → r ≡ asks q s
-    unfolding asks
-    ask_unsound r t e = let l = eq-eqb (length s) size h in rw (l, t) e
-
-    pub ask_answers : (r : Reading) → sound s ≡ true → (g : Guest) → view g ≡ decode s → r ≡ ask_step q (view g) → r ≡ asks q s
-    unfolding asks
-    ask_answers r t g v e = let l = eq-eqb (length s) size h in rw (l, t) (e ∙ ap (ask_step q) v)
+  pub ask_answers : (o : Result ℕ Errno) → 0 ≡ guarded (λ e. e) 0 s → (g : Guest) → view g ≡ decode s → reading o ≡ ask_step q (view g) → reading o ≡ asks q s
+  unfolding asks
+  ask_answers o k g v d = (d ∙ ap (ask_step q) v) ∙ sym (passed s untold (ask_step q (decode s)) k)
 
 -- An ITS command.
 
--- a command's outcome as a result
-abbrev boxed : BoxOutcome → BoxResult
-boxed o = refuse_box (view o.guest) (rows o.mapping) o.errno
-
-box_is : (o : BoxOutcome) (r : BoxResult) → BoxDoes o r → boxed o ≡ r
-box_is o r d =
-    ap (refuse_box (view o.guest) (rows o.mapping)) d.errno
-    ∙ ap₂ (λ (m : Machine) (k : Mapped). refuse_box m k r.errno) d.guest d.mapping
-
 module _ (c : Command) (s : List ℕ) where
-  pub command_short : (length s ≡ size → ⊥) → Gives (commands c s) (refusal 14) s
+  pub command_refuses : (e : Errno) {o : Result Unit Errno} → o ≡ Err e → number e ≡ guarded (λ e. e) 0 s → Gives (commands c s) (signed o) s
   unfolding commands
-  command_short h = let e = ne_eqb (length s) size h in record { number = rw e; left = rw e }
+  command_refuses e p q = gives_refused s e p (stopped s (refused s) (settled_box s (command_step c (decode s) (decode_map s))) e q)
 
-  module _ (h : length s ≡ size) where
-    pub command_unsound : sound s ≡ false → Gives (commands c s) (refusal 22) s
+  module _ (k : 0 ≡ guarded (λ e. e) 0 s) where
+    box_called : {r : BoxResult} → r ≡ command_step c (decode s) (decode_map s) → commands c s ≡ settled_box s r
     unfolding commands
-    command_unsound q = let l = eq-eqb (length s) size h in record { number = rw (l, q); left = rw (l, q) }
+    box_called d = passed s (refused s) (settled_box s (command_step c (decode s) (decode_map s))) k ∙ ap (settled_box s) (sym d)
 
-    module _ (q : sound s ≡ true) (o : BoxOutcome) (d : BoxDoes o (command_step c (decode s) (decode_map s))) where
-      box_called : commands c s ≡ settled_box s (boxed o)
-      unfolding commands
-      box_called = let l = eq-eqb (length s) size h in rw (l, q) (ap (settled_box s) (sym (box_is o _ d)))
+    pub command_fails : (e : Errno) {o : Result Unit Errno} → o ≡ Err e
+        → BoxDoes (decode s) (decode_map s) (Err e) (command_step c (decode s) (decode_map s)) → Gives (commands c s) (signed o) s
+    command_fails e p d = gives_refused s e p (box_called d.is ∙ rw (ne_eqb (number e) 0 (number_not_0 e)))
 
-      pub command_errno : o.errno < 4096
-      command_errno = rw d.errno (command_small (decode s) (decode_map s) c)
-
-      pub command_refuses : (r : ℤ) → (o.errno ≡ 0 → ⊥) → r ≡ refusal o.errno → Gives (commands c s) r s
-      command_refuses r n p =
-          let f = ne_eqb o.errno 0 n in
-          record { number = rw (box_called, f) p; left = rw (box_called, f) }
-
-      pub command_settles : (x : List ℕ) → o.errno ≡ 0 → x ≡ stored_map (rows o.mapping) (stored (view o.guest) s)
-          → Gives (commands c s) (done 0) x
-      command_settles x n a = let f = eq-eqb o.errno 0 n in record { number = rw (box_called, f); left = rw (box_called, f) a }
+    pub command_settles : (b : Contents) (x : List ℕ) → BoxDoes (decode s) (decode_map s) (Ok b) (command_step c (decode s) (decode_map s))
+        → x ≡ stored_map (rows b.mapping) (stored (view b.guest) s) → Gives (commands c s) (done 0) x
+    command_settles b x d a = gives_done (stored_map (rows b.mapping) (stored (view b.guest) s)) x (box_called d.is) a
 
 -- a command on what the bytes stand for, and its result stored
-pub performed_is : (c : Command) (s : List ℕ) (g : Guest) (k : Mapping) (o : BoxOutcome) → view g ≡ decode s → rows k ≡ decode_map s
-    → BoxDoes o (command_step c (view g) (rows k)) → BoxDoes o (command_step c (decode s) (decode_map s))
-performed_is c s g k o v w d = subst (λ (m : Machine). BoxDoes o (command_step c m (decode_map s))) v (subst (λ (x : Mapped). BoxDoes o (command_step c (view g) x)) w d)
+pub performed_is : (c : Command) (s : List ℕ) (g : Guest) (k : Mapping) (o : Result Contents Errno) → view g ≡ decode s → rows k ≡ decode_map s
+    → BoxDoes (view g) (rows k) o (command_step c (view g) (rows k)) → BoxDoes (decode s) (decode_map s) o (command_step c (decode s) (decode_map s))
+performed_is c s g k o v w d =
+    subst (λ (m : Machine). BoxDoes m (decode_map s) o (command_step c m (decode_map s))) v
+    (subst (λ (x : Mapped). BoxDoes (view g) x o (command_step c (view g) x)) w d)
 
-pub stored_both : (o : BoxOutcome) (s t x : List ℕ) → t ≡ stored (view o.guest) s → x ≡ stored_map (rows o.mapping) t
-    → x ≡ stored_map (rows o.mapping) (stored (view o.guest) s)
-stored_both o s t x a b = b ∙ ap (stored_map (rows o.mapping)) a
+pub stored_both : (b : Contents) (s t x : List ℕ) → t ≡ stored (view b.guest) s → x ≡ stored_map (rows b.mapping) t
+    → x ≡ stored_map (rows b.mapping) (stored (view b.guest) s)
+stored_both b s t x a d = d ∙ ap (stored_map (rows b.mapping)) a
 
 -- Lookup.
 
 module _ (device event : ℕ) (s : List ℕ) where
-  pub look_short : (r : Reading) → (length s ≡ size → ⊥) → r ≡ record { errno = 14; number = 0 } → r ≡ looks device event s
+  pub look_refuses : (e : Errno) {o : Result ℕ Errno} → o ≡ Err e → number e ≡ guarded (λ e. e) 0 s → reading o ≡ looks device event s
   unfolding looks
-  look_short r h e = let l = ne_eqb (length s) size h in rw l e
+  look_refuses e p k = reads_refused e p (stopped s untold (lookup_step device event (decode s) (decode_map s)) e k)
 
-  module _ (h : length s ≡ size) where
-    pub look_unsound : (r : Reading) → sound s ≡ false → r ≡ record { errno = 22; number = 0 } → r ≡ looks device event s
-    unfolding looks
-    look_unsound r t e = let l = eq-eqb (length s) size h in rw (l, t) e
-
-    pub look_answers : (r : Reading) → sound s ≡ true → (g : Guest) → view g ≡ decode s → (k : Mapping) → rows k ≡ decode_map s
-        → r ≡ lookup_step device event (view g) (rows k) → r ≡ looks device event s
-    unfolding looks
-    look_answers r t g v k w e = let l = eq-eqb (length s) size h in rw (l, t) (e ∙ ap₂ (lookup_step device event) v w)
+  pub look_answers : (o : Result ℕ Errno) → 0 ≡ guarded (λ e. e) 0 s → (g : Guest) → view g ≡ decode s → (k : Mapping) → rows k ≡ decode_map s
+      → reading o ≡ lookup_step device event (view g) (rows k) → reading o ≡ looks device event s
+  unfolding looks
+  look_answers o k g v x w d =
+      (d ∙ ap₂ (lookup_step device event) v w) ∙ sym (passed s untold (lookup_step device event (decode s) (decode_map s)) k)
 
 -- A get, and the number of a lent value.
 
-pub gives_no : (r : Reading) (value : List ℕ) (a : ℤ) → (r.errno ≡ 0 → ⊥) → a ≡ refusal r.errno → Gives (given r value) a value
-gives_no r value a n q = let f = ne_eqb r.errno 0 n in record { number = rw f q; left = rw f }
-
-pub gives_yes : (r : Reading) (value left : List ℕ) → r.errno ≡ 0 → left ≡ bytes_of (length value) r.number → Gives (given r value) (done 0) left
-gives_yes r value left n q = let f = eq-eqb r.errno 0 n in record { number = rw f; left = rw f q }
+pub gives_no : (e : Errno) {o : Result Unit Errno} (value : List ℕ) → o ≡ Err e → Gives (given (untold (number e)) value) (signed o) value
+gives_no e value p = gives_refused value e p (rw (ne_eqb (number e) 0 (number_not_0 e)))
 
 pub value_four : (value : List ℕ) (r : ℕ) → length value ≡ 4 → r ≡ le_at value 0 4 → r ≡ value_of value
 unfolding value_of le_at
@@ -205,12 +216,12 @@ value_none value a b = rw (ne_eqb (length value) 4 a, ne_eqb (length value) 8 b)
 -- Set-up.
 
 module _ (width start len : ℕ) (s : List ℕ) where
-  pub setup_short : (length s ≡ size → ⊥) → Gives (set_up width start len s) (refusal 14) s
+  pub setup_short : (length s ≡ size → ⊥) → Gives (set_up width start len s) (signed (Err EFAULT)) s
   unfolding set_up
   setup_short h = let e = ne_eqb (length s) size h in record { number = rw e; left = rw e }
 
   module _ (h : length s ≡ size) where
-    pub setup_refused : memory_ok (record { width = width; start = start; length = len }) ≡ false → Gives (set_up width start len s) (refusal 22) s
+    pub setup_refused : memory_ok (record { width = width; start = start; length = len }) ≡ false → Gives (set_up width start len s) (signed (Err EINVAL)) s
     unfolding set_up
     setup_refused q = let l = eq-eqb (length s) size h in record { number = rw (l, q); left = rw (l, q) }
 

@@ -2,7 +2,6 @@ pub mod Answers
 pub mod Boxes
 pub mod Laws
 pub mod Saving
-pub mod Copied
 pub mod Restoring
 pub mod Explaining
 pub mod Anchors

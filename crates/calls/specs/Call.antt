@@ -1,9 +1,12 @@
 -- Calls on lent bytes: the state, the value of an attribute, and the memory of a save, a restore or an explain.
-use Rattle.std.specs.Prelude.{ℕ, ◌^◌, ◌<◌, ◌≡◌, ◌||◌, ◌&&◌, List, ℤ, length, eqb}
+use Rattle.std.specs.Prelude as returned
+use Rattle.answers.specs.declared.Errno.{Errno}
+use Rattle.guest.specs.Returned.{reading}
+use Rattle.std.specs.Prelude.{IfOk, ℕ, ◌^◌, ◌<◌, ◌≡◌, ◌||◌, ◌&&◌, List, ℤ, length, eqb}
 use Rattle.lists.specs.Rows.{choose}
 use Rattle.answers.specs.Answer.{refusal, done}
 use Rattle.words.specs.Words.{le, bytes_of}
-use Rattle.guest.specs.declared.Reading.{Reading}
+use Rattle.guest.specs.Machine.{Reading}
 use Rattle.guest.specs.Machine.{Result, fresh}
 use Rattle.rules.specs.Rules.{memory_ok}
 use Rattle.layout.specs.Layout.{size, decode, stored}
@@ -132,9 +135,9 @@ explains s mem =
     s
 
 -- Inner: the promise of the code of that; its number is one that an answer can be
-pub record Explains (r : Reading) (s mem : List ℕ) : Type 0 where
-  pub is : r ≡ explains s mem
-  pub small : r.number < 2 ^ 63
+pub record Explains (r : returned.Result ℕ Errno) (s mem : List ℕ) : Type 0 where
+  pub is : reading r ≡ explains s mem
+  pub small : IfOk r (λ n. n < 2 ^ 63)
 
 -- Inner: the promise of an inner function that may write what is lent
 pub record Gives (r : Reply) (answer : ℤ) (lent : List ℕ) : Type 0 where

@@ -1,13 +1,15 @@
 -- The ITS commands as steps of the whole box: what §5.3 tests before each, and the two commands that change the tables' places.
-use Rattle.std.specs.Prelude.{ℕ, ◌≡◌, Bool, ◌&&◌, eqb}
+use Rattle.std.specs.Prelude.{Result, Ok, Err, IfOk, ℕ, ◌≡◌, Bool, ◌&&◌, eqb}
 use Rattle.lists.specs.Rows.{choose}
 use Rattle.guest.specs.declared.Table.{Table}
-use Rattle.guest.specs.declared.Reading.{Reading}
+use Rattle.guest.specs.Machine.{Reading}
 use Rattle.guest.specs.Machine.{Machine, Held, view, is_running, no_tables, with_tables}
 use Rattle.mapping.specs.Mapped.{Mapped, MapResult, Within, rows, empty}
 use Rattle.mapping.specs.Commands.{place_fault, map_device, unmap_device, map_collection, unmap_collection, map_event, discard, move, lookup}
 use Rattle.mapping.specs.MapRules.{is_placed}
-use Rattle.calls.specs.declared.BoxOutcome.{BoxOutcome}
+use Rattle.calls.specs.declared.Contents.{Contents}
+use Rattle.answers.specs.declared.Errno.{Errno}
+use Rattle.answers.specs.Number.{number}
 use Rattle.calls.specs.declared.Command.{Command}
 use Rattle.calls.specs.declared.Command.TheVariants.{Place, MapDevice, UnmapDevice, MapCollection, UnmapCollection, MapEvent, Discard, Move, Reset}
 
@@ -21,17 +23,19 @@ pub record BoxResult : Type 0 where
   pub errno : ℕ
   pub next : Box
 
--- Inner: the promise of the code of a command
-pub record BoxDoes (o : BoxOutcome) (r : BoxResult) : Type 0 where
-  pub errno : o.errno ≡ r.errno
-  pub guest : view o.guest ≡ r.next.machine
-  pub mapping : rows o.mapping ≡ r.next.mapped
-  pub held : Held o.guest
-  pub within : Within o.mapping
-
 -- §2.4: a refusal keeps guest and mapping
 abbrev pub refuse_box : Machine → Mapped → ℕ → BoxResult
 refuse_box m k e = record { errno = e; next = record { machine = m; mapped = k } }
+
+-- Inner: what the code hands back for a command on a guest and a mapping: the next two, or an errno and both as they were
+abbrev pub boxed : Machine → Mapped → Result Contents Errno → BoxResult
+boxed m k (Ok b) = record { errno = 0; next = record { machine = view b.guest; mapped = rows b.mapping } }
+boxed m k (Err e) = refuse_box m k (number e)
+
+-- Inner: the promise of the code of a command
+pub record BoxDoes (m : Machine) (k : Mapped) (o : Result Contents Errno) (r : BoxResult) : Type 0 where
+  pub is : boxed m k o ≡ r
+  pub held : IfOk o (λ b. Held b.guest × Within b.mapping)
 
 -- Notation: the mark of ITS INIT as a test
 abbrev pub its_initialised : Machine → Bool

@@ -2,7 +2,7 @@
 -- with all their bits.
 use Rattle.std.specs.Prelude.{ℕ, ◌||◌, eqb}
 use Rattle.lists.specs.Rows.{choose}
-use Rattle.guest.specs.declared.Reading.{Reading}
+use Rattle.guest.specs.Machine.{Reading}
 use Rattle.guest.specs.Machine.{Machine, Result, refuse}
 use Rattle.frames.specs.Bases.{set_group0, get_group0, set_its_group0, get_its_group0}
 use Rattle.frames.specs.Vcpus.{set_irqs, get_irqs, its_init}

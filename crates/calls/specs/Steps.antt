@@ -1,5 +1,5 @@
 -- Each call as a step of the machine.
-use Rattle.guest.specs.declared.Reading.{Reading}
+use Rattle.guest.specs.Machine.{Reading}
 use Rattle.guest.specs.Machine.{Machine, Result}
 use Rattle.frames.specs.Vcpus.{add_vcpu, set_running}
 use Rattle.frames.specs.Init.{redist_base}

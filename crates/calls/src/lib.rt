@@ -4,8 +4,9 @@
 mod commands;
 mod groups;
 
-ghost use Rattle.std.specs.Prelude.{◌≡◌, length, true, ◌<◌, ◌^◌};
-ghost use Rattle.guest.specs.Machine.{view, Held, Does};
+ghost use Rattle.std.specs.Prelude.{◌≡◌, length, true, ◌<◌, ◌^◌, IfOk};
+ghost use Rattle.guest.specs.Machine.{view, Held};
+ghost use Rattle.guest.specs.Returned.{fault, reading, Does};
 ghost use Rattle.rules.specs.Rules.{Kept};
 ghost use Rattle.layout.specs.Layout.{size, decode, stored};
 ghost use Rattle.maplayout.specs.MapLayout.{decode_map, stored_map};
@@ -14,13 +15,15 @@ ghost use Rattle.state.specs.Sound.{sound};
 ghost use Rattle.mapping.specs.Mapped.{rows, Within};
 ghost use Rattle.mapping.specs.MapRules.{MapKept};
 ghost use Rattle.calls.specs.Commands.{BoxDoes, command_step};
-ghost use Rattle.calls.specs.Call.{changes, asks, set_up, value_of, given, answered, Gives};
+ghost use Rattle.calls.specs.Call.{guarded, changes, asks, set_up, value_of, given, answered, Gives};
+ghost use Rattle.calls.specs.Signed.{signed};
 ghost use Rattle.calls.specs.Call.{commands, looks, saves, restores, Explains};
 
-use guest::{Guest, Outcome, Reading};
+use answers::Errno;
+use guest::Guest;
 use mapping::Mapping;
 
-// Calls that may change the state (`change_step` says which paragraph each is). Attributes come with the width of the lent value and its
+// Calls that may change the state (`change_step` says which paragraph each is). An enum, as are the next two: the definitions take a call as a value. Attributes come with the width of the lent value and its
 // number (§2.8).
 #[derive(Clone, Copy)]
 pub enum Change {
@@ -59,17 +62,16 @@ pub enum Command {
     Reset(u64),
 }
 
-// What a command comes to: an errno, 0 for none, and the next guest and mapping.
+// What the bytes of a state hold.
 #[derive(Clone, Copy)]
-pub struct BoxOutcome {
-    pub errno: u64,
+pub struct Contents {
     pub guest: Guest,
     pub mapping: Mapping,
 }
 
-pub fn step(g: Guest, c: Change) -> Outcome
+pub fn step(g: Guest, c: Change) -> Result<Guest, Errno>
     requires { Kept g }
-    ensures { Does result (change_step c (view g)) }
+    ensures { Does (view g) result (change_step c (view g)) }
 {
     match c {
         Change::AddVcpu(affinity) => frames::vcpus::add_vcpu(g, affinity),
@@ -89,9 +91,9 @@ pub fn step(g: Guest, c: Change) -> Outcome
     }
 }
 
-pub fn answer(g: Guest, q: Question) -> Reading
+pub fn answer(g: Guest, q: Question) -> Result<u64, Errno>
     requires { Kept g }
-    ensures { result ≡ ask_step q (view g) }
+    ensures { reading result ≡ ask_step q (view g) }
 {
     match q {
         Question::VgicGet(group, attribute, width, value) => groups::vgic_get(
@@ -121,97 +123,97 @@ pub fn is_sound(s: &[u8]) -> bool
     mapcheck::keeps_map_rules(s)
 }
 
-pub fn apply(state: &mut [u8], c: Change) -> i64
-    ensures { Gives (changes c state.old) result state.new }
+// §1.3: how every call but set-up begins.
+fn check(s: &[u8]) -> Result<(), Errno>
+    ensures { fault result ≡ guarded (λ e. e) 0 s.now }
 {
-    if state.len() != 11400 {
-        return -14;
+    if s.len() != 11400 {
+        return Err(Errno::EFAULT);
     }
-    if !is_sound(state) {
-        return -22;
+    if !is_sound(s) {
+        return Err(Errno::EINVAL);
     }
-    let o = step(layout::load_guest(state), c);
-    let errno = o.errno;
-    if errno != 0 {
-        return answers::refuse(errno);
-    }
-    let next = o.guest;
-    layout::store_guest(state, next);
-    0
+    Ok(())
 }
 
-pub fn ask(state: &[u8], q: Question) -> Reading
-    ensures { result ≡ asks q state.now }
+pub fn apply(state: &mut [u8], c: Change) -> Result<(), Errno>
+    ensures { Gives (changes c state.old) (signed result) state.new }
 {
-    if state.len() != 11400 {
-        return guest::told(14, 0);
-    }
-    if !is_sound(state) {
-        return guest::told(22, 0);
-    }
+    check(state)?;
+    let next = step(layout::load_guest(state), c)?;
+    layout::store_guest(state, next);
+    Ok(())
+}
+
+pub fn ask(state: &[u8], q: Question) -> Result<u64, Errno>
+    ensures { reading result ≡ asks q state.now }
+{
+    check(state)?;
     answer(layout::load_guest(state), q)
 }
 
 // §1.4: makes a fresh guest of any bytes of the right length.
-pub fn set_up(state: &mut [u8], width: u64, start: u64, length: u64) -> i64
-    ensures { Gives (set_up width start length state.old) result state.new }
+pub fn set_up(state: &mut [u8], width: u64, start: u64, length: u64) -> Result<(), Errno>
+    ensures { Gives (set_up width start length state.old) (signed result) state.new }
 {
     if state.len() != 11400 {
-        return -14;
+        return Err(Errno::EFAULT);
     }
     let g = Guest::new(width, start, length);
     let memory = g.memory;
     if !keeps::memory_ok(memory) {
-        return -22;
+        return Err(Errno::EINVAL);
     }
     let none = Mapping::new();
     maplayout::store_mapping(state, none);
     layout::store_guest(state, g);
-    0
+    Ok(())
 }
 
 // §2.8: the number that a lent value stands for.
 pub fn value_of(value: &[u8]) -> u64
     ensures { result ≡ value_of value.now }
 {
-    if value.len() == 4 {
-        return words::get32(value, 0);
+    match value.len() {
+        4 => words::get32(value, 0),
+        8 => words::get64(value, 0),
+        _ => 0,
     }
-    if value.len() == 8 {
-        return words::get64(value, 0);
-    }
-    0
 }
 
 // §2.8: fills a lent value with what a question came to.
-pub fn give(value: &mut [u8], r: Reading) -> i64
-    requires { r.errno < 4096 }
-    ensures { Gives (given r value.old) result value.new }
+pub fn give(value: &mut [u8], r: Result<u64, Errno>) -> Result<(), Errno>
+    ensures { Gives (given (reading r) value.old) (signed result) value.new }
 {
-    let errno = r.errno;
-    if errno != 0 {
-        return answers::refuse(errno);
-    }
-    words::fill(value, r.number);
-    0
+    words::fill(value, r?);
+    Ok(())
 }
 
-// What a question for a number came to.
-pub fn tell(r: Reading) -> i64
-    requires { (r.errno < 4096) × (r.number < 2 ^ 63) }
-    ensures { result ≡ answered r }
+// What a question for a number came to, as the C interface has it (§2.1).
+pub fn tell(r: Result<u64, Errno>) -> i64
+    requires { IfOk r (λ n. n < 2 ^ 63) }
+    ensures { result ≡ answered (reading r) }
 {
-    let errno = r.errno;
-    if errno != 0 {
-        return answers::refuse(errno);
+    match r {
+        Ok(n) => answers::done(n),
+        Err(e) => e.refusal(),
     }
-    answers::done(r.number)
+}
+
+// What a call that answers no number came to, likewise.
+pub fn sign(r: Result<(), Errno>) -> i64
+    ensures { result ≡ signed r }
+{
+    match r {
+        Ok(()) => 0,
+        Err(e) => e.refusal(),
+    }
 }
 
 // An ITS command as a step of the guest and its mapping.
-pub fn perform(g: Guest, k: Mapping, c: Command) -> BoxOutcome
+pub fn perform(g: Guest, k: Mapping, c: Command) -> Result<Contents, Errno>
     requires { MapKept g k }
-    ensures { BoxDoes result (command_step c (view g) (rows k)) }
+    ensures { BoxDoes (view g) (rows k) result (command_step c (view g) (rows k)) }
 {
     match c {
         Command::Place(ds, dp, cs, cp) => commands::place(g, k, ds, dp, cs, cp),
@@ -229,15 +231,17 @@ pub fn perform(g: Guest, k: Mapping, c: Command) -> BoxOutcome
 }
 
 // An ITS command on the guest and the mapping that sound bytes stand for.
-fn performed(s: &[u8], c: Command) -> BoxOutcome
+#[inline(never)]
+fn performed(s: &[u8], c: Command) -> Result<Contents, Errno>
     requires { (length s.now ≡ size) × (sound s.now ≡ true) }
-    ensures { BoxDoes result (command_step c (decode s.now) (decode_map s.now)) }
+    ensures { BoxDoes (decode s.now) (decode_map s.now) result (command_step c (decode s.now) (decode_map s.now)) }
 {
     perform(layout::load_guest(s), maplayout::load_mapping(s), c)
 }
 
 // The next guest and mapping in place of those that the bytes held.
-fn store_box(s: &mut [u8], o: BoxOutcome)
+#[inline(never)]
+fn store_contents(s: &mut [u8], o: Contents)
     requires { (length s.old ≡ size) × (Held o.guest) × (Within o.mapping) }
     ensures { s.new ≡ stored_map (rows o.mapping) (stored (view o.guest) s.old) }
 {
@@ -248,33 +252,19 @@ fn store_box(s: &mut [u8], o: BoxOutcome)
 }
 
 // The work is in two functions of their own, so that what the first needs of the stack is free again for the second.
-pub fn run_command(state: &mut [u8], c: Command) -> i64
-    ensures { Gives (commands c state.old) result state.new }
+pub fn run_command(state: &mut [u8], c: Command) -> Result<(), Errno>
+    ensures { Gives (commands c state.old) (signed result) state.new }
 {
-    if state.len() != 11400 {
-        return -14;
-    }
-    if !is_sound(state) {
-        return -22;
-    }
-    let o = performed(state, c);
-    let errno = o.errno;
-    if errno != 0 {
-        return answers::refuse(errno);
-    }
-    store_box(state, o);
-    0
+    check(state)?;
+    let next = performed(state, c)?;
+    store_contents(state, next);
+    Ok(())
 }
 
-pub fn look(state: &[u8], device: u64, event: u64) -> Reading
-    ensures { result ≡ looks device event state.now }
+pub fn look(state: &[u8], device: u64, event: u64) -> Result<u64, Errno>
+    ensures { reading result ≡ looks device event state.now }
 {
-    if state.len() != 11400 {
-        return guest::told(14, 0);
-    }
-    if !is_sound(state) {
-        return guest::told(22, 0);
-    }
+    check(state)?;
     commands::look_up(
         layout::load_guest(state),
         maplayout::load_mapping(state),
@@ -284,79 +274,36 @@ pub fn look(state: &[u8], device: u64, event: u64) -> Reading
 }
 
 // Writes the tables into the lent memory; the state stays.
-pub fn save(state: &[u8], mem: &mut [u8]) -> i64
-    ensures { Gives (saves state.now mem.old) result mem.new }
+pub fn save(state: &[u8], mem: &mut [u8]) -> Result<(), Errno>
+    ensures { Gives (saves state.now mem.old) (signed result) mem.new }
 {
-    if state.len() != 11400 {
-        return -14;
-    }
-    if !is_sound(state) {
-        return -22;
-    }
-    let len = mem.len() as u64;
-    let fault = commands::memory_fault(state, len);
-    if fault != 0 {
-        return answers::refuse(fault);
-    }
+    check(state)?;
+    commands::memory_fault(state, mem.len() as u64)?;
     save::save_tables(state, mem);
-    0
-}
-
-// Bytes copied over others of the same length.
-fn copy(to: &mut [u8], from: &[u8])
-    requires { length to.old ≡ length from.now }
-    ensures { to.new ≡ from.now }
-{
-    let n = from.len();
-    let mut i: usize = 0;
-    while i < n {
-        to[i] = from[i];
-        i += 1;
-    }
+    Ok(())
 }
 
 // Reads the mapping from the tables in the lent memory, which stays, into a copy of the state: a restore that is refused half way
 // leaves the state as it was. Nothing but the mapping changes.
-pub fn restore(state: &mut [u8], mem: &[u8]) -> i64
-    ensures { Gives (restores state.old mem.now) result state.new }
+pub fn restore(state: &mut [u8], mem: &[u8]) -> Result<(), Errno>
+    ensures { Gives (restores state.old mem.now) (signed result) state.new }
 {
-    if state.len() != 11400 {
-        return -14;
-    }
-    if !is_sound(state) {
-        return -22;
-    }
-    let len = mem.len() as u64;
-    let fault = commands::memory_fault(state, len);
-    if fault != 0 {
-        return answers::refuse(fault);
-    }
+    check(state)?;
+    commands::memory_fault(state, mem.len() as u64)?;
     let mut next = [0; 11400];
-    copy(&mut next, state);
-    let errno = restore::restore_tables(&mut next, mem);
-    if errno != 0 {
-        return answers::refuse(errno);
-    }
-    copy(state, &next);
-    0
+    next.copy_from_slice(state);
+    restore::restore_tables(&mut next, mem)?;
+    state.copy_from_slice(&next);
+    Ok(())
 }
 
 // Says what a restore would meet: the code of the first fault, or 0. It is a restore into a copy of the state, which is dropped.
-pub fn explain(state: &[u8], mem: &[u8]) -> Reading
+pub fn explain(state: &[u8], mem: &[u8]) -> Result<u64, Errno>
     ensures { Explains result state.now mem.now }
 {
-    if state.len() != 11400 {
-        return guest::told(14, 0);
-    }
-    if !is_sound(state) {
-        return guest::told(22, 0);
-    }
-    let len = mem.len() as u64;
-    let fault = commands::memory_fault(state, len);
-    if fault != 0 {
-        return guest::told(fault, 0);
-    }
+    check(state)?;
+    commands::memory_fault(state, mem.len() as u64)?; // no code, but a refusal
     let mut next = [0; 11400];
-    copy(&mut next, state);
-    guest::told(0, restore::read_tables(&mut next, mem))
+    next.copy_from_slice(state);
+    Ok(codes::code_of(restore::read_tables(&mut next, mem)))
 }

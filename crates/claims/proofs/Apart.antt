@@ -9,7 +9,7 @@ use lib.Dec.{eqb}
 use borrow.Author.Tests.{eq-eqb, ne_eqb, lt-ltb}
 use Rattle.lists.specs.Rows.{find_ix}
 use Rattle.words.proofs.Bytes.{Bytes}
-use Rattle.guest.specs.declared.Reading.{Reading}
+use Rattle.guest.specs.Machine.{Reading}
 use Rattle.guest.specs.declared.Vcpu.{Vcpu}
 use Rattle.guest.specs.Machine.{Machine, no_vcpu}
 use Rattle.rules.specs.Rules.{has_affinity, taken, distinct}

@@ -8,7 +8,7 @@ use lib.ListN.{length}
 use lib.Dec.{eqb}
 use borrow.Author.Tests.{eqb-false, ne_eqb}
 use Rattle.answers.specs.Errno as errnos
-use Rattle.guest.specs.declared.Reading.{Reading}
+use Rattle.guest.specs.Machine.{Reading}
 use Rattle.guest.specs.Machine.{Machine, is_running}
 use Rattle.rules.specs.Rules.{memory_ok}
 use Rattle.layout.specs.Layout.{size, decode}

@@ -13,7 +13,7 @@ use Rattle.lists.specs.Rows.{choose}
 use Rattle.words.specs.Words.{le, bytes_of}
 use Rattle.answers.specs.Answer.{refusal, done}
 use Rattle.answers.proofs.Laws.{refusal_not_done}
-use Rattle.guest.specs.declared.Reading.{Reading}
+use Rattle.guest.specs.Machine.{Reading}
 use Rattle.guest.specs.Machine.{Machine, no_bank, bank_bits}
 use Rattle.guest.specs.Words.{BankFits}
 use Rattle.rules.proofs.Facts.{sound_last}

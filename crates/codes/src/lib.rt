@@ -1,36 +1,12 @@
-// The faults of a restore as numbers: the kinds of §13.4, and codes with table, device and entry (§13.6).
+// The faults of a restore: the kinds of §13.4, each at its place, and their codes with table, device and entry (§13.6).
 #![tactic(auto)]
 
-ghost use Rattle.std.specs.Prelude.{◌≡◌, ◌^◌, ◌≤◌, ◌<◌};
-ghost use Rattle.tables.specs.Fault.{at_collection, at_device, at_event, place_number};
-ghost use Rattle.codes.specs.Codes.{code_in, Answers};
+ghost use Rattle.std.specs.Prelude.{◌≡◌};
+ghost use Rattle.answers.specs.Number.{number};
+ghost use Rattle.tables.specs.Fault.{kind_errno, place_number, code};
+ghost use Rattle.codes.specs.Codes.{kind_is, place_is, fault_is, code_met, Numbers, Answers};
 
 use answers::Errno;
-
-// What a part of a restore that meets no fault hands back.
-pub const NO_FAULT: u64 = 0;
-
-pub const PE: u64 = 1;
-
-pub const REPEAT: u64 = 2;
-
-pub const COLLECTION_17TH: u64 = 3;
-
-pub const NEXT: u64 = 4;
-
-pub const SIZE: u64 = 5;
-
-pub const DEVICE_33RD: u64 = 6;
-
-pub const OUTSIDE: u64 = 7;
-
-pub const OVERLAP: u64 = 8;
-
-pub const LPI: u64 = 9;
-
-pub const ICID: u64 = 10;
-
-pub const EVENT_1025TH: u64 = 11;
 
 // Where the kind, the table and the device stand in a code.
 const KIND: u64 = 0x10000000000;
@@ -39,57 +15,123 @@ const TABLE: u64 = 0x100000000;
 
 const DEVICE: u64 = 0x10000;
 
-// An entry of the collection table.
-pub fn at_collection(i: usize) -> u64
-    requires { i < 65536 }
-    ensures { result ≡ place_number (at_collection i) }
-{
-    TABLE + i as u64
+// What a fault is, by its number.
+#[derive(Clone, Copy, Debug, PartialEq, Eq)]
+pub enum Kind {
+    Pe = 1,
+    Repeat = 2,
+    Collection17th = 3,
+    Next = 4,
+    Size = 5,
+    Device33rd = 6,
+    Outside = 7,
+    Overlap = 8,
+    Lpi = 9,
+    Icid = 10,
+    Event1025th = 11,
 }
 
-// An entry of the device table.
-pub fn at_device(i: usize) -> u64
-    requires { i < 65536 }
-    ensures { result ≡ place_number (at_device i) }
-{
-    2 * TABLE + i as u64
-}
-
-// An entry of the ITT of a device.
-pub fn at_event(id: u16, i: usize) -> u64
-    requires { i < 65536 }
-    ensures { result ≡ place_number (at_event id i) }
-{
-    3 * TABLE + DEVICE * (id as u64) + i as u64
-}
-
-// The code of a fault of this kind at this place.
-pub fn code_at(kind: u64, place: u64) -> u64
-    requires { (kind ≤ 11) × (place < 2 ^ 40) }
-    ensures { result ≡ code_in kind place }
-{
-    if kind == NO_FAULT {
-        return NO_FAULT;
+impl Kind {
+    // The errno of a restore that such a fault stops.
+    pub fn errno(self) -> Errno
+        ensures { number result ≡ kind_errno (kind_is self) }
+    {
+        match self {
+            Kind::Outside => Errno::EFAULT,
+            Kind::Collection17th | Kind::Device33rd | Kind::Event1025th => Errno::ENOMEM,
+            _ => Errno::EINVAL,
+        }
     }
-    KIND * kind + place
 }
 
-// The errno of a restore that is stopped by the fault of a code.
+// A number that no kind has.
+#[derive(Clone, Copy, Debug, PartialEq, Eq)]
+pub struct NoKind;
+
+impl TryFrom<u64> for Kind {
+    type Error = NoKind;
+
+    ghost try_from_gives = { Numbers };
+
+    fn try_from(n: u64) -> Result<Kind, NoKind> {
+        match n {
+            1 => Ok(Kind::Pe),
+            2 => Ok(Kind::Repeat),
+            3 => Ok(Kind::Collection17th),
+            4 => Ok(Kind::Next),
+            5 => Ok(Kind::Size),
+            6 => Ok(Kind::Device33rd),
+            7 => Ok(Kind::Outside),
+            8 => Ok(Kind::Overlap),
+            9 => Ok(Kind::Lpi),
+            10 => Ok(Kind::Icid),
+            11 => Ok(Kind::Event1025th),
+            _ => Err(NoKind),
+        }
+    }
+}
+
+// The entry that is read when a fault is met.
+#[derive(Clone, Copy, Debug, PartialEq, Eq)]
+pub enum Place {
+    // An entry of the collection table.
+    Collection(u16),
+    // An entry of the device table.
+    Device(u16),
+    // An entry of the ITT of a device, whose ID comes first.
+    Event(u16, u16),
+}
+
+impl Place {
+    // Its part of a code.
+    pub fn number(self) -> u64
+        ensures { result ≡ place_number (place_is self) }
+    {
+        match self {
+            Place::Collection(i) => TABLE + i as u64,
+            Place::Device(i) => 2 * TABLE + i as u64,
+            Place::Event(id, i) => 3 * TABLE + DEVICE * (id as u64) + i as u64,
+        }
+    }
+}
+
+#[derive(Clone, Copy, Debug, PartialEq, Eq)]
+pub struct Fault {
+    pub kind: Kind,
+    pub place: Place,
+}
+
+impl Fault {
+    pub fn code(self) -> u64
+        ensures { result ≡ code (fault_is self) }
+    {
+        KIND * (self.kind as u64) + self.place.number()
+    }
+
+    // The errno of a restore that it stops.
+    pub fn errno(self) -> Errno
+        ensures { number result ≡ kind_errno (fault_is self).kind }
+    {
+        self.kind.errno()
+    }
+}
+
+// The code of the fault that was met, 0 for none.
+pub fn code_of(met: Result<(), Fault>) -> u64
+    ensures { result ≡ code_met met }
+{
+    match met {
+        Ok(()) => 0,
+        Err(fault) => fault.code(),
+    }
+}
+
+// The errno of a restore that is stopped by the fault of a code. Answers is of any code, so that both are numbers.
 pub fn number_of(code: u64) -> u64
     ensures { Answers code result }
 {
-    let kind = code / KIND;
-    if kind == OUTSIDE {
-        return Errno::EFAULT;
+    match Kind::try_from(code / KIND) {
+        Ok(kind) => kind.errno().number(),
+        Err(NoKind) => Errno::EINVAL.number(),
     }
-    if kind == COLLECTION_17TH {
-        return Errno::ENOMEM;
-    }
-    if kind == DEVICE_33RD {
-        return Errno::ENOMEM;
-    }
-    if kind == EVENT_1025TH {
-        return Errno::ENOMEM;
-    }
-    Errno::EINVAL
 }

@@ -1,9 +1,9 @@
 -- The explaining program: the text that it writes for an image.
-use Rattle.std.specs.Prelude.{ℕ, ◌≡◌, List, ◌++◌, length}
+use Rattle.std.specs.Prelude.{ℕ, List, ◌++◌, length}
 use Rattle.lists.specs.Rows.{choose}
-use Rattle.tables.specs.Fault.{Fault, kind_errno, code, Indexed}
+use Rattle.tables.specs.Fault.{Fault, kind_errno}
 use Rattle.tables.specs.Restored.{Out, fault, found, restored}
-use Rattle.lines.specs.Text.{ascii, decimal, Adds}
+use Rattle.lines.specs.Text.{ascii, decimal}
 use Rattle.naming.specs.Naming.{fault_text}
 use Rattle.image.specs.Image.{is_image, guest_of}
 
@@ -27,11 +27,3 @@ told (found k) = ascii "described\n"
 -- §13.11: the whole text
 unfoldable pub explained : List ℕ → List ℕ
 explained image = choose (is_image (length image)) (told (restored (guest_of (length image)) image)) early
-
--- Inner: no line is longer: 31 bytes of the answer, 91 of the fault, 1
-abbrev pub explained_room : ℕ
-explained_room = 123
-
--- Inner: the promise of the code that puts the line of a code: of whatever fault it stands for
-abbrev pub Names : ℕ → List ℕ → List ℕ → ℕ → Type 0
-Names c before after r = (f : Fault) → Indexed f.place → c ≡ code f → Adds before 0 (fault_line f) explained_room after r

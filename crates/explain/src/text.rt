@@ -1,53 +1,63 @@
 // The line for an image of guest memory.
-ghost use Rattle.std.specs.Prelude.{◌≤◌, length};
-ghost use Rattle.lines.specs.Text.{Adds};
-ghost use Rattle.image.specs.Image.{Starts};
-ghost use Rattle.explain.specs.Explained.{refused, early, explained, explained_room, Names};
+ghost use Rattle.std.specs.Prelude.{◌≡◌, ◌≤◌, length};
+ghost use Rattle.answers.specs.Number.{number};
+ghost use Rattle.codes.specs.Codes.{fault_is};
+ghost use Rattle.lines.specs.Text.{ascii};
+ghost use Rattle.explain.specs.Explained.{refused, fault_line, early, explained};
 
 use answers::Errno;
+use arrayvec::ArrayVec;
+use codes::Fault;
 
-// The bytes of the longest line: a number takes at most 20 digits, and a byte ends it.
-pub const ROOM: usize = 123;
+// The longest line has 123 bytes: 31 of the answer, since a number takes at most 20 digits and a byte ends it, 91 of the fault, 1.
+pub type Line = ArrayVec<u8, 123>;
 
-fn put_refused(out: &mut [u8], errno: u64) -> usize
-    requires { explained_room ≤ length out.old }
-    ensures { Adds out.old 0 (refused errno) 31 out.new result }
+// What a refusal begins with.
+fn refused(errno: Errno) -> Line
+    ensures { (result.items ≡ refused (number errno)) × (length result.items ≤ 31) }
 {
-    let space = lines::put_number(out, 0, b"refused -", errno, b':');
-    lines::put_text(out, space, b" ")
+    let mut out = Line::new();
+    lines::put_number(&mut out, b"refused -", errno.number(), b':');
+    lines::put_text(&mut out, b" ");
+    out
 }
 
-fn put_early(out: &mut [u8]) -> usize
-    requires { explained_room ≤ length out.old }
-    ensures { Adds out.old 0 early explained_room out.new result }
+// The line for a length that no image has.
+fn early() -> Line
+    ensures { result.items ≡ early }
 {
-    let reason = put_refused(out, Errno::EFAULT);
-    lines::put_text(out, reason, b"before any table is read\n")
+    let mut out = refused(Errno::EFAULT);
+    lines::put_text(&mut out, b"before any table is read\n");
+    out
 }
 
-// The line of the fault that a code stands for.
-fn put_fault(out: &mut [u8], code: u64) -> usize
-    requires { explained_room ≤ length out.old }
-    ensures { Names code out.old out.new result }
+fn described() -> Line
+    ensures { result.items ≡ ascii "described\n" }
 {
-    let reason = put_refused(out, codes::number_of(code));
-    let end = naming::put_fault(out, reason, code);
-    lines::put_text(out, end, b"\n")
+    let mut out = Line::new();
+    lines::put_text(&mut out, b"described\n");
+    out
 }
 
-// Puts the line for an image at the start of out, and answers how long it is.
-pub fn explain_image(bytes: &[u8], out: &mut [u8]) -> usize
-    requires { explained_room ≤ length out.old }
-    ensures { Starts (explained bytes.now) out.new result }
+fn fault_line(fault: Fault) -> Line
+    ensures { result.items ≡ fault_line (fault_is fault) }
+{
+    let mut out = refused(fault.errno());
+    naming::put_met(&mut out, fault);
+    lines::put_text(&mut out, b"\n");
+    out
+}
+
+pub fn explain_image(bytes: &[u8]) -> Line
+    ensures { result.items ≡ explained bytes.now }
 {
     if !image::is_image(bytes.len()) {
-        return put_early(out);
+        return early();
     }
     let mut state = [0u8; image::STATE];
     image::store_guest_of(&mut state, bytes.len() as u64);
-    let code = restore::read_tables(&mut state, bytes);
-    if code == codes::NO_FAULT {
-        return lines::put_text(out, 0, b"described\n");
+    match restore::read_tables(&mut state, bytes) {
+        Ok(()) => described(),
+        Err(fault) => fault_line(fault),
     }
-    put_fault(out, code)
 }

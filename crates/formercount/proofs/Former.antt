@@ -11,7 +11,7 @@ use Rattle.lists.specs.Rows.{choose}
 use Rattle.answers.specs.Answer.{done}
 use Rattle.words.proofs.Bytes.{Bytes}
 use Rattle.guest.specs.declared.Control.{Control}
-use Rattle.guest.specs.declared.Reading.{Reading}
+use Rattle.guest.specs.Machine.{Reading}
 use Rattle.guest.specs.Machine.{Machine, shared_count, no_bank, unset, no_tables}
 use Rattle.rules.specs.Rules.{memory_ok, irqs_ok, frames_ok, init_ok, vcpus_ok, last_ok, untouched, its_ok, tables_ok}
 use Rattle.mapping.specs.Mapped.{empty}

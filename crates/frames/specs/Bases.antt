@@ -6,7 +6,7 @@ use Rattle.areas.specs.declared.Area.{Area}
 use Rattle.areas.specs.Area.{ends_by, strikes}
 use Rattle.guest.specs.declared.Frame.{Frame}
 use Rattle.guest.specs.declared.Region.{Region}
-use Rattle.guest.specs.declared.Reading.{Reading}
+use Rattle.guest.specs.Machine.{Reading}
 use Rattle.guest.specs.Machine.{Machine, Result, refuse, accept, is_set, with_frames, with_regions}
 use Rattle.rules.specs.Standing.{standing, distributor_size, its_size, run_size, region_area}
 use Rattle.rules.specs.Rules.{limit_of}

@@ -4,7 +4,7 @@ use Rattle.lists.specs.Rows.{choose}
 use Rattle.areas.specs.declared.Area.{Area}
 use Rattle.areas.specs.Area.{ends_by, strikes}
 use Rattle.guest.specs.declared.Region.{Region}
-use Rattle.guest.specs.declared.Reading.{Reading}
+use Rattle.guest.specs.Machine.{Reading}
 use Rattle.guest.specs.Machine.{Machine, Result, refuse, accept, initialised, is_set, with_control}
 use Rattle.rules.specs.Standing.{others, total, whole_run, redistributor_size}
 use Rattle.rules.specs.Rules.{limit_of}

@@ -2,7 +2,7 @@
 use Rattle.std.specs.Prelude.{ℕ, ◌||◌, ◌&&◌, [], ◌∷◌, ◌++◌, length, replicate, leb, eqb}
 use Rattle.lists.specs.Rows.{choose}
 use Rattle.guest.specs.declared.Control.{Control}
-use Rattle.guest.specs.declared.Reading.{Reading}
+use Rattle.guest.specs.Machine.{Reading}
 use Rattle.guest.specs.Machine.{Machine, Result, refuse, accept, initialised, is_set, no_vcpu, no_bank, shared_count, with_control, with_vcpus, with_shared}
 use Rattle.rules.specs.Rules.{taken, irqs_ok}
 

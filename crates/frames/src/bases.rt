@@ -1,17 +1,19 @@
 // Group 0: frames' bases and redistributor regions. Values are 8 bytes.
-ghost use Rattle.std.specs.Prelude.{◌++◌, ◌∷◌, [], ◌≡◌, ◌<◌, ◌≤◌, ◌^◌, take};
-ghost use Rattle.guest.specs.Machine.{Does, view, with_frames};
+ghost use Rattle.std.specs.Prelude.{◌≡◌, ◌+◌, ◌<◌, ◌≤◌, ◌^◌};
+ghost use Rattle.fields.specs.Field.{get_field, put_field};
+ghost use Rattle.guest.specs.Machine.{view};
+ghost use Rattle.guest.specs.Returned.{fault, Does, reading};
 ghost use Rattle.rules.specs.Standing.{region_area};
 ghost use Rattle.rules.specs.Rules.{Kept};
 ghost use Rattle.frames.specs.Bases.{is_base, name_fault, base_of, get_single, get_region, get_group0, get_its_group0, region_word, word_region};
-ghost use Rattle.frames.specs.Bases.{area_fault, frame_fault, single_fault, region_fault, finish};
+ghost use Rattle.frames.specs.Bases.{area_fault, frame_fault, single_fault, region_fault};
 ghost use Rattle.frames.specs.Bases.{set_distributor, set_single, set_its_base, add_region, set_group0, set_its_group0};
 
 use answers::Errno;
 use areas::Area;
-use guest::{Frame, Frames, Guest, Outcome, Reading, Region, Regions};
+use guest::{Frame, Guest, Region};
 
-// Attributes, and the bytes of a base or a region word.
+// Attributes, which are numbers of the C interface, and the bytes of a base or a region word.
 const DISTRIBUTOR: u64 = 2;
 
 const SINGLE: u64 = 3;
@@ -32,238 +34,222 @@ pub const REDISTRIBUTOR_BYTES: u64 = 131072;
 
 const ITS_BYTES: u64 = 131072;
 
-// The fields of a region word (§3.7): the lowest bit and the number of bits of each.
-const INDEX_AT: u32 = 0;
+// A field of a region word (§3.7): its lowest bit and its number of bits.
+#[derive(Clone, Copy)]
+struct Field {
+    at: u32,
+    bits: u32,
+}
 
-const INDEX_BITS: u32 = 12;
+impl Field {
+    fn get(self, w: u64) -> u64
+        requires { (1 ≤ self.bits) × (self.at + self.bits ≤ 64) }
+        ensures { result ≡ get_field w self.at self.bits }
+    {
+        fields::field_get(w, self.at, self.bits)
+    }
 
-const FLAGS_AT: u32 = 12;
+    // The word with the field replaced.
+    fn put(self, w: u64, value: u64) -> u64
+        requires { (1 ≤ self.bits) × (self.at + self.bits ≤ 64) × (value < 2 ^ self.bits) }
+        ensures { result ≡ put_field w self.at self.bits value }
+    {
+        fields::field_put(w, self.at, self.bits, value)
+    }
+}
 
-const FLAGS_BITS: u32 = 4;
+const INDEX: Field = Field { at: 0, bits: 12 };
 
-const BASE_AT: u32 = 16;
+const FLAGS: Field = Field { at: 12, bits: 4 };
 
-const BASE_BITS: u32 = 36;
+const BASE: Field = Field { at: 16, bits: 36 };
 
-const COUNT_AT: u32 = 52;
-
-const COUNT_BITS: u32 = 12;
+const COUNT: Field = Field { at: 52, bits: 12 };
 
 // Whether the VGIC's group 0 has an attribute.
 fn is_base(attribute: u64) -> bool
     ensures { result ≡ is_base attribute }
 {
-    if attribute == DISTRIBUTOR {
-        return true;
-    }
-    if attribute == SINGLE {
-        return true;
-    }
-    attribute == REGION
+    matches!(attribute, DISTRIBUTOR | SINGLE | REGION)
 }
 
-// An unknown attribute of the VGIC's group 0, then a value of the wrong width; 0 for neither.
-fn name_fault(attribute: u64, width: u64) -> u64
-    ensures { result ≡ name_fault attribute width }
+// Refuses an unknown attribute of the VGIC's group 0, then a value of the wrong width.
+#[tactic(auto, unfolding(crate::specs::Bases::name_fault))]
+fn name_fault(attribute: u64, width: u64) -> Result<(), Errno>
+    ensures { fault result ≡ name_fault attribute width }
 {
-    if is_base(attribute) {
-        if width == BASE_BYTES {
-            return 0;
-        }
-        return Errno::EFAULT;
+    if !is_base(attribute) {
+        return Err(Errno::ENXIO);
     }
-    Errno::ENXIO
+    if width != BASE_BYTES {
+        return Err(Errno::EFAULT);
+    }
+    Ok(())
 }
 
 // The base of a frame, if it is set.
-fn base_of(f: Frame) -> Reading
-    ensures { result ≡ base_of f }
+fn base_of(f: Frame) -> Result<u64, Errno>
+    ensures { reading result ≡ base_of f }
 {
     if f.set != 1 {
-        return guest::told(Errno::ENOENT, 0);
+        return Err(Errno::ENOENT);
     }
-    guest::told(0, f.base)
+    Ok(f.base)
 }
 
 // The base of the single run. With regions standing there can be none.
-fn get_single(g: Guest) -> Reading
+#[tactic(auto, unfolding(crate::specs::Bases::get_single))]
+fn get_single(g: Guest) -> Result<u64, Errno>
     requires { Kept g }
-    ensures { result ≡ get_single (view g) }
+    ensures { reading result ≡ get_single (view g) }
 {
     if g.regions.count != 0 {
-        return guest::told(Errno::EINVAL, 0);
+        return Err(Errno::EINVAL);
     }
-    let f = g.frames.single;
-    base_of(f)
+    base_of(g.frames.single)
 }
 
 // The word of a region, with flags 0. A base is a multiple of 65,536, so that its bits 51:16 are all of it.
+#[tactic(auto, unfolding(crate::specs::Bases::region_word))]
 fn region_word(index: u64, r: Region) -> u64
     requires { (index < 2 ^ 12) × (r.base < 2 ^ 52) × (r.count < 2 ^ 12) }
     ensures { result ≡ region_word index r }
 {
-    let low = fields::field_put(0, INDEX_AT, INDEX_BITS, index);
-    let mid = fields::field_put(low, BASE_AT, BASE_BITS, r.base / UNIT);
-    fields::field_put(mid, COUNT_AT, COUNT_BITS, r.count)
+    let low = INDEX.put(0, index);
+    let mid = BASE.put(low, r.base / UNIT);
+    COUNT.put(mid, r.count)
 }
 
 // The region of a word.
+#[tactic(auto, using(fields::proofs::Laws::get_lt), unfolding(crate::specs::Bases::word_region))]
 fn word_region(w: u64) -> Region
     ensures { result ≡ word_region w }
 {
     Region {
-        base: fields::field_get(w, BASE_AT, BASE_BITS) * UNIT,
-        count: fields::field_get(w, COUNT_AT, COUNT_BITS),
+        base: BASE.get(w) * UNIT,
+        count: COUNT.get(w),
     }
 }
 
 // Only the index bits of the lent word are read.
-fn get_region(g: Guest, w: u64) -> Reading
+#[tactic(auto, unfolding(crate::specs::Bases::get_region))]
+fn get_region(g: Guest, w: u64) -> Result<u64, Errno>
     requires { Kept g }
-    ensures { result ≡ get_region w (view g) }
+    ensures { reading result ≡ get_region w (view g) }
 {
     if g.frames.single.set == 1 {
-        return guest::told(Errno::EINVAL, 0);
+        return Err(Errno::EINVAL);
     }
-    let index = fields::field_get(w, INDEX_AT, INDEX_BITS);
-    let at = index as usize;
-    let t = g.regions;
-    if at < t.count {
-        let r = t.rows[at];
-        return guest::told(0, region_word(index, r));
+    let index = INDEX.get(w);
+    match g.regions.rows[..g.regions.count].get(index as usize) {
+        Some(r) => Ok(region_word(index, *r)),
+        None => Err(Errno::ENOENT),
     }
-    guest::told(Errno::ENOENT, 0)
 }
 
 // Group 0 of the VGIC.
-pub fn get_group0(g: Guest, attribute: u64, width: u64, value: u64) -> Reading
+#[tactic(auto, unfolding(crate::specs::Bases::get_group0, crate::specs::Bases::name_fault))]
+pub fn get_group0(g: Guest, attribute: u64, width: u64, value: u64) -> Result<u64, Errno>
     requires { Kept g }
-    ensures { result ≡ get_group0 attribute width value (view g) }
+    ensures { reading result ≡ get_group0 attribute width value (view g) }
 {
-    let fault = name_fault(attribute, width);
-    if fault != 0 {
-        return guest::told(fault, 0);
+    name_fault(attribute, width)?;
+    match attribute {
+        DISTRIBUTOR => base_of(g.frames.distributor),
+        SINGLE => get_single(g),
+        _ => get_region(g, value),
     }
-    if attribute == DISTRIBUTOR {
-        let f = g.frames.distributor;
-        return base_of(f);
-    }
-    if attribute == SINGLE {
-        return get_single(g);
-    }
-    get_region(g, value)
 }
 
 // Group 0 of the ITS, where an unknown attribute is -19.
-pub fn get_its_group0(g: Guest, attribute: u64, width: u64) -> Reading
+#[tactic(auto, unfolding(crate::specs::Bases::get_its_group0))]
+pub fn get_its_group0(g: Guest, attribute: u64, width: u64) -> Result<u64, Errno>
     requires { Kept g }
-    ensures { result ≡ get_its_group0 attribute width (view g) }
+    ensures { reading result ≡ get_its_group0 attribute width (view g) }
 {
     if attribute != ITS {
-        return guest::told(Errno::ENODEV, 0);
+        return Err(Errno::ENODEV);
     }
     if width != BASE_BYTES {
-        return guest::told(Errno::EFAULT, 0);
+        return Err(Errno::EFAULT);
     }
-    let f = g.frames.its;
-    base_of(f)
+    base_of(g.frames.its)
 }
 
-// An area that is to stand: it ends above the address space, or overlaps a frame that stands.
-fn area_fault(g: Guest, a: Area) -> u64
+// Refuses an area that is to stand where it ends above the address space, or overlaps a frame that stands.
+#[tactic(auto, using(crate::proofs::Known::narrow, rules::proofs::Facts::kept_small), unfolding(crate::specs::Bases::area_fault))]
+fn area_fault(g: Guest, a: Area) -> Result<(), Errno>
     requires { Kept g }
-    ensures { result ≡ area_fault a (view g) }
+    ensures { fault result ≡ area_fault a (view g) }
 {
-    let limit = rules::limit(g.memory.width);
-    if areas::ends_by(limit, a) {
-        let t = rules::standing(g);
-        if areas::strikes(t, a) {
-            return Errno::EINVAL;
-        }
-        return 0;
+    if !areas::ends_by(rules::limit(g.memory.width), a) {
+        return Err(Errno::E2BIG);
     }
-    Errno::E2BIG
+    if areas::strikes(rules::standing(g), a) {
+        return Err(Errno::EINVAL);
+    }
+    Ok(())
 }
 
-// The fault of setting the base of the frame f, of so many bytes (§3.5); 0 for none.
-fn frame_fault(g: Guest, f: Frame, size: u64, base: u64) -> u64
+// What stops the base of the frame f, of so many bytes, from being set (§3.5).
+#[tactic(auto, unfolding(crate::specs::Bases::frame_fault))]
+fn frame_fault(g: Guest, f: Frame, size: u64, base: u64) -> Result<(), Errno>
     requires { Kept g }
-    ensures { result ≡ frame_fault f size base (view g) }
+    ensures { fault result ≡ frame_fault f size base (view g) }
 {
     if f.set == 1 {
-        return Errno::EEXIST;
+        return Err(Errno::EEXIST);
     }
     if base % UNIT != 0 {
-        return Errno::EINVAL;
+        return Err(Errno::EINVAL);
     }
-    let a = Area {
-        start: base,
-        size: size,
-    };
-    area_fault(g, a)
+    area_fault(g, Area { start: base, size })
 }
 
-// The guest with its frames replaced, unless there is a fault.
-fn with_frames(g: Guest, fault: u64, frames: Frames) -> Outcome
+// Each frame is set by a function of its own, as in the definitions set_distributor, set_single and set_its_base.
+#[tactic(auto, unfolding(crate::specs::Bases::set_distributor))]
+fn set_distributor(g: Guest, base: u64) -> Result<Guest, Errno>
     requires { Kept g }
-    ensures { Does result (finish fault (view g) (with_frames frames (view g))) }
+    ensures { Does (view g) result (set_distributor base (view g)) }
 {
-    if fault != 0 {
-        return guest::refused(g, fault);
-    }
+    frame_fault(g, g.frames.distributor, DISTRIBUTOR_BYTES, base)?;
     let mut next = g;
-    next.frames = frames;
-    Outcome {
-        errno: 0,
-        guest: next,
-    }
+    next.frames.distributor = Frame { set: 1, base };
+    Ok(next)
 }
 
-fn set_distributor(g: Guest, base: u64) -> Outcome
+// What stops the single run's base from being set. Regions and the single run never stand together.
+#[tactic(auto, unfolding(crate::specs::Bases::single_fault))]
+fn single_fault(g: Guest, base: u64) -> Result<(), Errno>
     requires { Kept g }
-    ensures { Does result (set_distributor base (view g)) }
-{
-    let mut frames = g.frames;
-    let old = frames.distributor;
-    let fault = frame_fault(g, old, DISTRIBUTOR_BYTES, base);
-    let f = Frame { set: 1, base: base };
-    frames.distributor = f;
-    with_frames(g, fault, frames)
-}
-
-// The fault of setting the single run's base; 0 for none. Regions and the single run never stand together.
-fn single_fault(g: Guest, base: u64) -> u64
-    requires { Kept g }
-    ensures { result ≡ single_fault base (view g) }
+    ensures { fault result ≡ single_fault base (view g) }
 {
     if g.regions.count != 0 {
-        return Errno::EINVAL;
+        return Err(Errno::EINVAL);
     }
-    let old = g.frames.single;
-    frame_fault(g, old, rules::run_size(g), base)
+    frame_fault(g, g.frames.single, rules::run_size(g), base)
 }
 
-fn set_single(g: Guest, base: u64) -> Outcome
+#[tactic(auto, unfolding(crate::specs::Bases::set_single))]
+fn set_single(g: Guest, base: u64) -> Result<Guest, Errno>
     requires { Kept g }
-    ensures { Does result (set_single base (view g)) }
+    ensures { Does (view g) result (set_single base (view g)) }
 {
-    let fault = single_fault(g, base);
-    let f = Frame { set: 1, base: base };
-    let mut frames = g.frames;
-    frames.single = f;
-    with_frames(g, fault, frames)
+    single_fault(g, base)?;
+    let mut next = g;
+    next.frames.single = Frame { set: 1, base };
+    Ok(next)
 }
 
-fn set_its_base(g: Guest, base: u64) -> Outcome
+#[tactic(auto, unfolding(crate::specs::Bases::set_its_base))]
+fn set_its_base(g: Guest, base: u64) -> Result<Guest, Errno>
     requires { Kept g }
-    ensures { Does result (set_its_base base (view g)) }
+    ensures { Does (view g) result (set_its_base base (view g)) }
 {
-    let mut frames = g.frames;
-    let old = frames.its;
-    let fault = frame_fault(g, old, ITS_BYTES, base);
-    let f = Frame { set: 1, base: base };
-    frames.its = f;
-    with_frames(g, fault, frames)
+    frame_fault(g, g.frames.its, ITS_BYTES, base)?;
+    let mut next = g;
+    next.frames.its = Frame { set: 1, base };
+    Ok(next)
 }
 
 // A count below 4,096 keeps the size a number of 64 bits.
@@ -277,89 +263,70 @@ fn region_area(r: Region) -> Area
     }
 }
 
-// The fault of adding the region of a word (§3.8); 0 for none.
-fn region_fault(g: Guest, w: u64) -> u64
+// What stops the region of a word from being added (§3.8).
+#[tactic(auto, using(crate::proofs::Known::word_count), unfolding(crate::specs::Bases::region_fault))]
+fn region_fault(g: Guest, w: u64) -> Result<(), Errno>
     requires { Kept g }
-    ensures { result ≡ region_fault w (view g) }
+    ensures { fault result ≡ region_fault w (view g) }
 {
     if g.frames.single.set == 1 {
-        return Errno::EINVAL;
+        return Err(Errno::EINVAL);
     }
-    if fields::field_get(w, FLAGS_AT, FLAGS_BITS) != 0 {
-        return Errno::EINVAL;
+    if FLAGS.get(w) != 0 {
+        return Err(Errno::EINVAL);
     }
     let r = word_region(w);
     if r.count == 0 {
-        return Errno::EINVAL;
+        return Err(Errno::EINVAL);
     }
     let n = g.regions.count;
-    if fields::field_get(w, INDEX_AT, INDEX_BITS) != n as u64 {
-        return Errno::EINVAL;
+    if INDEX.get(w) != n as u64 {
+        return Err(Errno::EINVAL);
     }
     if Guest::MAX_REGIONS <= n {
-        return Errno::ENOMEM;
+        return Err(Errno::ENOMEM);
     }
     area_fault(g, region_area(r))
 }
 
-// One more region, at the end.
-fn with_region(t: Regions, r: Region) -> Regions
-    requires { t.count < 32 }
-    ensures { (take result.count result.rows ≡ take t.count t.rows ++ (r ∷ [])) × (result.count ≤ 32) }
-{
-    let at = t.count;
-    let mut next = t;
-    next.rows[at] = r;
-    next.count = at + 1;
-    next
-}
-
-fn add_region(g: Guest, w: u64) -> Outcome
+// The region stands at the end of the others.
+#[tactic(auto, unfolding(crate::specs::Bases::add_region, crate::specs::Bases::region_fault))]
+fn add_region(g: Guest, w: u64) -> Result<Guest, Errno>
     requires { Kept g }
-    ensures { Does result (add_region w (view g)) }
+    ensures { Does (view g) result (add_region w (view g)) }
 {
-    let fault = region_fault(g, w);
-    if fault != 0 {
-        return guest::refused(g, fault);
-    }
-    let old = g.regions;
-    let t = with_region(old, word_region(w));
+    region_fault(g, w)?;
     let mut next = g;
-    next.regions = t;
-    Outcome {
-        errno: 0,
-        guest: next,
-    }
+    next.regions.rows[g.regions.count] = word_region(w);
+    next.regions.count += 1;
+    Ok(next)
 }
 
 // Group 0 of the VGIC.
-pub fn set_group0(g: Guest, attribute: u64, width: u64, value: u64) -> Outcome
+#[tactic(auto, unfolding(crate::specs::Bases::set_group0, crate::specs::Bases::name_fault))]
+pub fn set_group0(g: Guest, attribute: u64, width: u64, value: u64) -> Result<Guest, Errno>
     requires { Kept g }
-    ensures { Does result (set_group0 attribute width value (view g)) }
+    ensures { Does (view g) result (set_group0 attribute width value (view g)) }
 {
-    let fault = name_fault(attribute, width);
-    if fault != 0 {
-        return guest::refused(g, fault);
+    name_fault(attribute, width)?;
+    match attribute {
+        DISTRIBUTOR => set_distributor(g, value),
+        SINGLE => set_single(g, value),
+        _ => add_region(g, value),
     }
-    if attribute == DISTRIBUTOR {
-        return set_distributor(g, value);
-    }
-    if attribute == SINGLE {
-        return set_single(g, value);
-    }
-    add_region(g, value)
 }
 
 // Group 0 of the ITS.
-pub fn set_its_group0(g: Guest, attribute: u64, width: u64, value: u64) -> Outcome
+#[tactic(auto, unfolding(crate::specs::Bases::set_its_group0))]
+pub fn set_its_group0(g: Guest, attribute: u64, width: u64, value: u64) -> Result<Guest, Errno>
     requires { Kept g }
-    ensures { Does result (set_its_group0 attribute width value (view g)) }
+    ensures { Does (view g) result (set_its_group0 attribute width value (view g)) }
 {
     if attribute != ITS {
-        return guest::refused(g, Errno::ENODEV);
+        return Err(Errno::ENODEV);
     }
     if width != BASE_BYTES {
-        return guest::refused(g, Errno::EFAULT);
+        return Err(Errno::EFAULT);
     }
     set_its_base(g, value)
 }

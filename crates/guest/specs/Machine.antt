@@ -1,5 +1,5 @@
 -- The guest as a reader has it: tables are lists of the rows in use, with no arrays and no counts.
-use Rattle.std.specs.Prelude.{ℕ, ◌≤◌, ◌/◌, ◌-◌, ◌≡◌, Bool, List, [], take, replicate, eqb}
+use Rattle.std.specs.Prelude.{ℕ, ◌≤◌, ◌/◌, ◌-◌, Bool, List, [], take, replicate, eqb}
 use Rattle.lists.specs.Rows.{choose}
 use Rattle.guest.specs.declared.Memory.{Memory}
 use Rattle.guest.specs.declared.Control.{Control}
@@ -11,7 +11,6 @@ use Rattle.guest.specs.declared.Vcpu.{Vcpu}
 use Rattle.guest.specs.declared.Table.{Table}
 use Rattle.guest.specs.declared.Tables.{Tables}
 use Rattle.guest.specs.declared.Guest.{Guest}
-use Rattle.guest.specs.declared.Outcome.{Outcome}
 
 -- §1.1: the one guest, all but its mapping (§5.1). VCPUs stand in the order in which they were added (§3.1), regions by their index (§3.8)
 -- and the shared banks by their number, bank 1 first (§4.2).
@@ -47,14 +46,10 @@ pub record Result : Type 0 where
   pub errno : ℕ
   pub next : Machine
 
--- Inner: the same of a struct of the code
-abbrev pub viewed : Outcome → Result
-viewed o = record { errno = o.errno; next = view o.guest }
-
--- Inner: what the code of a changing call promises
-pub record Does (o : Outcome) (r : Result) : Type 0 where
-  pub is : viewed o ≡ r
-  pub held : Held o.guest
+-- §2.1, §2.3: what a question comes to: an errno, 0 for none, and the number asked for
+pub record Reading : Type 0 where
+  pub errno : ℕ
+  pub number : ℕ
 
 -- §2.4: a refused call leaves the machine as it was
 abbrev pub refuse : Machine → ℕ → Result

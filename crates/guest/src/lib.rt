@@ -6,7 +6,7 @@ ghost use Rattle.std.specs.Prelude.{◌≡◌};
 ghost use Rattle.guest.specs.Machine.{view, fresh, no_bank, no_vcpu, bank_bits, Held};
 
 // §1.4: the address width p in bits, and the run of guest memory.
-#[derive(Clone, Copy)]
+#[derive(Clone, Copy, Debug, PartialEq, Eq)]
 pub struct Memory {
     pub width: u64,
     pub start: u64,
@@ -14,8 +14,9 @@ pub struct Memory {
 }
 
 // §1.5, §1.7: the marks, which are 0 or 1, and two numbers. init, itsinit: the INIT is done. irqs: the interrupt count. irqsset: it counts
-// as set (§3.14). status: the distributor's STATUSR (§4.14).
-#[derive(Clone, Copy)]
+// as set (§3.14). status: the distributor's STATUSR (§4.14). A mark is a number, here and in the structs below, since any bytes are read as a
+// guest: the definition `decode` gives a mark of 2 too, and `rules` refuses it.
+#[derive(Clone, Copy, Debug, PartialEq, Eq)]
 pub struct Control {
     pub init: u64,
     pub running: u64,
@@ -26,14 +27,14 @@ pub struct Control {
 }
 
 // §1.7: a base that may not be set: set is 0 or 1.
-#[derive(Clone, Copy)]
+#[derive(Clone, Copy, Debug, PartialEq, Eq)]
 pub struct Frame {
     pub set: u64,
     pub base: u64,
 }
 
 // §3.5: the frames that have one base: the distributor, the single redistributor run and the ITS.
-#[derive(Clone, Copy)]
+#[derive(Clone, Copy, Debug, PartialEq, Eq)]
 pub struct Frames {
     pub distributor: Frame,
     pub single: Frame,
@@ -41,13 +42,14 @@ pub struct Frames {
 }
 
 // §3.7: a redistributor region: room for count redistributors from base.
-#[derive(Clone, Copy)]
+#[derive(Clone, Copy, Debug, PartialEq, Eq)]
 pub struct Region {
     pub base: u64,
     pub count: u64,
 }
 
-// The regions by their index.
+// The regions by their index. An array and a count, as for VCPUs and banks: there is no heap, and one struct over any row and any length is
+// refused, since nothing bounds its size.
 #[derive(Clone, Copy)]
 pub struct Regions {
     pub rows: [Region; 32],
@@ -55,7 +57,7 @@ pub struct Regions {
 }
 
 // §4.1: a bank of 32 interrupts, a bit for each in latch, level and trigger (bit set: edge).
-#[derive(Clone, Copy)]
+#[derive(Clone, Copy, Debug, PartialEq, Eq)]
 pub struct Bank {
     pub latch: u64,
     pub level: u64,
@@ -63,7 +65,7 @@ pub struct Bank {
 }
 
 // §3.1, §4.2: a VCPU with its own bank, INTIDs 0 to 31, and its redistributor's STATUSR.
-#[derive(Clone, Copy)]
+#[derive(Clone, Copy, Debug, PartialEq, Eq)]
 pub struct Vcpu {
     pub affinity: u64,
     pub bank: Bank,
@@ -85,7 +87,7 @@ pub struct Banks {
 }
 
 // §5.4, §1.7: where a table lies in memory: set is 0 or 1; pages of 4 KiB.
-#[derive(Clone, Copy)]
+#[derive(Clone, Copy, Debug, PartialEq, Eq)]
 pub struct Table {
     pub set: u64,
     pub start: u64,
@@ -93,7 +95,7 @@ pub struct Table {
 }
 
 // §5.4: the two tables that are placed together.
-#[derive(Clone, Copy)]
+#[derive(Clone, Copy, Debug, PartialEq, Eq)]
 pub struct Tables {
     pub devices: Table,
     pub collections: Table,
@@ -109,20 +111,6 @@ pub struct Guest {
     pub vcpus: Vcpus,
     pub shared: Banks,
     pub tables: Tables,
-}
-
-// What a changing call comes to: an errno, 0 for none, and the next guest.
-#[derive(Clone, Copy)]
-pub struct Outcome {
-    pub errno: u64,
-    pub guest: Guest,
-}
-
-// §2.1, §2.3: what a question comes to: an errno, 0 for none, and the number asked for.
-#[derive(Clone, Copy)]
-pub struct Reading {
-    pub errno: u64,
-    pub number: u64,
 }
 
 impl Guest {
@@ -232,23 +220,5 @@ fn no_vcpus() -> Vcpus
     Vcpus {
         rows: [fresh_vcpu(0); 64],
         count: 0,
-    }
-}
-
-pub fn refused(g: Guest, errno: u64) -> Outcome
-    ensures { result ≡ record { errno = errno; guest = g } }
-{
-    Outcome {
-        errno: errno,
-        guest: g,
-    }
-}
-
-pub fn told(errno: u64, number: u64) -> Reading
-    ensures { result ≡ record { errno = errno; number = number } }
-{
-    Reading {
-        errno: errno,
-        number: number,
     }
 }

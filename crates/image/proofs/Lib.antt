@@ -1,4 +1,3 @@
 pub mod Ready
 pub mod Stored
-pub mod Reading
 pub mod Text

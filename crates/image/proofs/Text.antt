@@ -1,4 +1,4 @@
--- The text for an image: in a buffer, and of an image that is too long. Assumes nothing.
+-- The text for an image that is too long. Assumes nothing.
 use Prim.Native.Nat.{ℕ, ◌≤◌, ◌<◌}
 use native.Mathlib.Omega.{arith}
 use mathlib.Core.Path.{◌≡◌, sym, ◌∙◌}
@@ -7,17 +7,7 @@ use mathlib.Core.List.{List}
 use lib.ListN.{length, take}
 use lib.Seq.{length-take-le}
 use borrow.Author.Tests.{le-leb, lt-leb}
-use Rattle.lines.specs.Text.{Adds}
-use Rattle.image.specs.Image.{is_image, Starts}
-use Rattle.image.proofs.Reading.{counted}
-
--- what was put at the start of a buffer that has room for it
-pub starts : {before text whole after : List ℕ} {room r : ℕ} → room ≤ length before → length after ≡ length before → text ≡ whole
-    → Adds before 0 text room after r → Starts whole after r
-starts {after = after} {r = r} enough same e a =
-    let m = a.most in
-    let f : r ≤ length after = omega arith in
-    record { is = a.is ∙ e; counts = counted r after f }
+use Rattle.image.specs.Image.{is_image}
 
 long_refused : (image : List ℕ) → 65536 < length image → is_image (length image) ≡ false
 unfolding is_image

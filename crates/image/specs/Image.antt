@@ -1,6 +1,5 @@
 -- An image of guest memory, and the guest whose memory it is.
-use Rattle.std.specs.Prelude.{ℕ, ◌%◌, ◌≡◌, Bool, ◌&&◌, List, [], ◌∷◌, take, replicate, leb, eqb}
-use Rattle.io.specs.Counts.{IsPrefixLen}
+use Rattle.std.specs.Prelude.{ℕ, ◌%◌, Bool, ◌&&◌, List, [], ◌∷◌, replicate, leb, eqb}
 use Rattle.guest.specs.declared.Frame.{Frame}
 use Rattle.guest.specs.declared.Vcpu.{Vcpu}
 use Rattle.guest.specs.declared.Table.{Table}
@@ -33,8 +32,3 @@ guest_of size = record {
   shared = replicate (shared_count fresh_irqs) no_bank;
   tables = record { devices = page_at 0x40000000; collections = page_at 0x40001000 };
 }
-
--- Inner: the promise of a function that puts the text for an image: the first r bytes of its buffer are that text
-pub record Starts (text out : List ℕ) (r : ℕ) : Type 0 where
-  pub is : take r out ≡ text
-  pub counts : IsPrefixLen r out

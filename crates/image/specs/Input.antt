@@ -1,10 +1,7 @@
 -- What reading the image comes to.
-use Rattle.std.specs.Prelude.{List, ℕ}
+use Rattle.std.specs.Prelude.{List, ℕ, Result, IfOk}
 use Rattle.io.specs.Counts.{IsPrefixLen}
-use Rattle.image.specs.declared.input.Input.{Input}
-use Rattle.image.specs.declared.input.Input.TheVariants.{Bytes, Unread}
 
 -- Inner: the promise of the code that reads: so many bytes at the start of the buffer, which has as many
-abbrev pub Fills : Input → List ℕ → Type 0
-Fills (Bytes n) l = IsPrefixLen n l
-Fills Unread l = Unit {0}
+abbrev pub Fills : {E : Type 0} → Result ℕ E → List ℕ → Type 0
+Fills r l = IfOk r (λ n. IsPrefixLen n l)

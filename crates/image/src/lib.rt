@@ -27,19 +27,13 @@ pub const STATE: usize = 11400;
 pub fn is_image(size: usize) -> bool
     ensures { result ≡ is_image size }
 {
-    if size < 2 * PAGE {
-        return false;
-    }
-    if IMAGE < size {
-        return false;
-    }
-    size % PAGE == 0
+    2 * PAGE <= size && size <= IMAGE && size % PAGE == 0
 }
 
 fn frame_at(base: u64) -> Frame
     ensures { result ≡ frame_at base }
 {
-    Frame { set: 1, base: base }
+    Frame { set: 1, base }
 }
 
 fn page_at(start: u64) -> Table
@@ -47,7 +41,7 @@ fn page_at(start: u64) -> Table
 {
     Table {
         set: 1,
-        start: start,
+        start,
         pages: 1,
     }
 }
@@ -60,10 +54,7 @@ fn four_vcpus() -> Vcpus
     rows[1] = guest::fresh_vcpu(1);
     rows[2] = guest::fresh_vcpu(2);
     rows[3] = guest::fresh_vcpu(3);
-    Vcpus {
-        rows: rows,
-        count: 4,
-    }
+    Vcpus { rows, count: 4 }
 }
 
 // §11.1: frames stand where a restore does not look: both INITs ask for them.

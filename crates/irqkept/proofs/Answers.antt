@@ -6,7 +6,7 @@ use mathlib.Core.Bool.{Bool, true, false, ◌||◌}
 use lib.Dec.{eqb, lit<}
 use borrow.Author.Tests.{eqb-true}
 use Rattle.lists.specs.Rows.{choose}
-use Rattle.guest.specs.declared.Reading.{Reading}
+use Rattle.guest.specs.Machine.{Reading}
 use Rattle.guest.specs.Machine.{Machine, Result, refuse, accept}
 use Rattle.kept.specs.Good.{listed}
 use Rattle.irqs.specs.Irqs.{irq_pending, irq_set, irq_clear, irq_line, irq_trigger}

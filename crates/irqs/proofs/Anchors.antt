@@ -13,7 +13,7 @@ use borrow.Author.Tests.{lt-ltb, le-ltb, eqb-true, eqb-false, ltb-true, ltb-fals
 use Rattle.lists.specs.Rows.{choose}
 use Rattle.guest.specs.declared.Bank.{Bank}
 use Rattle.guest.specs.declared.Vcpu.{Vcpu}
-use Rattle.guest.specs.declared.Reading.{Reading}
+use Rattle.guest.specs.Machine.{Reading}
 use Rattle.guest.specs.Machine.{Machine, accept, initialised, no_bank, no_vcpu, bank_bits}
 use Rattle.guest.specs.Words.{BankFits}
 use Rattle.guest.proofs.Anchors.{bit_at, bits_below}

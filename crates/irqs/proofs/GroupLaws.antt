@@ -1,22 +1,32 @@
 -- What the groups' calls come to, from what the code's parts say.
 use Prim.Native.Nat.{ℕ, ◌/◌, ◌%◌, ◌≤◌, ◌<◌}
 use native.Mathlib.Omega.{arith}
-use mathlib.Core.Path.{◌≡◌, refl, ◌∙◌}
+use mathlib.Core.Path.{◌≡◌, refl, sym, ◌∙◌}
 use mathlib.Core.Bool.{Bool, true, false}
 use lib.ListN.{length}
 use lib.Dec.{ltb, eqb}
 use borrow.Author.Tests.{lt-ltb, le-ltb, eq-eqb, ne_eqb, ltb-true, eqb-true}
+use Rattle.std.specs.Prelude.{Option, Some, None, ok_or, position}
+use Rattle.answers.specs.declared.Errno.TheVariants.{EINVAL}
 use Rattle.lists.specs.Rows.{choose}
+use Rattle.lists.proofs.Searches.{found, not_found}
 use Rattle.guest.specs.declared.Bank.{Bank}
-use Rattle.guest.specs.declared.Outcome.{Outcome}
-use Rattle.guest.specs.Machine.{Machine, Does, refuse, accept, initialised}
+use Rattle.guest.specs.Machine.{Machine, refuse, accept, initialised}
 use Rattle.irqs.specs.declared.Spot.{Spot}
 use Rattle.irqs.specs.declared.Spot.TheVariants.{Own}
 use Rattle.irqs.specs.declared.Register.{Register}
 use Rattle.banks.specs.Bank.{with_level}
-use Rattle.irqs.specs.Spots.{shared_spot, bank_of, with_bank, level_word, vcpu_of, Stands}
+use Rattle.irqs.specs.Spots.{has_affinity, Names, shared_spot, bank_of, with_bank, level_word, vcpu_of, Stands}
 use Rattle.irqs.specs.Registers.{distributor_register, redistributor_register, register_fault, distributor_read, distributor_write, redistributor_read, redistributor_write, offset_of, affinity_of, info_of, vintid_of, set_group1, get_group1, group5_fault, set_group5, get_group5, group7_fault, level_spot, set_group7, get_group7}
 use Rattle.irqs.proofs.SpotLaws.{shared_stands}
+
+pub past : {a b : ℕ} → a ≡ b → b ≤ a
+past h = omega (arith, h)
+
+-- the search for an affinity, as the refusals ask
+pub names_of : (a : ℕ) (m : Machine) (o : Option ℕ) → o ≡ position (has_affinity a) m.vcpus → Names a m (ok_or o EINVAL)
+names_of a m (Some k) h = let f = found (has_affinity a) m.vcpus k (sym h) in (sym f.0, f.1)
+names_of a m None h = (refl, not_found (has_affinity a) m.vcpus (sym h))
 
 module _ (attribute width : ℕ) (m : Machine) where
   -- group 1
@@ -112,9 +122,9 @@ module _ (attribute width : ℕ) (m : Machine) where
     get7_refused n = rw (← q, ne_eqb e 0 n)
 
     module _ (s : Spot) (b : Bank) (z : e ≡ 0) (p : s ≡ level_spot attribute m) (w : b ≡ bank_of s m) where
-      pub set7_done : (value : ℕ) (o : Outcome) (x : Bank) → x ≡ with_level (level_word s value) b → Does o (accept (with_bank s x m)) → Does o (set_group7 attribute width value m)
+      pub set7_done : (value : ℕ) (x : Bank) → x ≡ with_level (level_word s value) b → set_group7 attribute width value m ≡ accept (with_bank s x m)
       unfolding set_group7
-      set7_done value o x v d = rw (← q, eq-eqb e 0 z, ← p, ← w, ← v) d
+      set7_done value x v = rw (← q, eq-eqb e 0 z, ← p, ← w, ← v)
 
       pub get7_told : get_group7 attribute width m ≡ record { errno = 0; number = b.level }
       unfolding get_group7

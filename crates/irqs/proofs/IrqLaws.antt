@@ -1,27 +1,18 @@
 -- What the calls that name a VCPU and an INTID come to, from what the code's parts say.
 use Prim.Native.Nat.{ℕ, ◌%◌, ◌≤◌, ◌<◌}
 use native.Mathlib.Omega.{arith}
-use mathlib.Core.Path.{◌≡◌, refl, sym, ap, ◌∙◌}
+use mathlib.Core.Path.{◌≡◌, refl, sym, ◌∙◌}
 use mathlib.Core.Bool.{Bool, true, false}
 use lib.ListN.{length}
 use lib.Dec.{ltb, eqb}
 use borrow.Author.Tests.{lt-ltb, le-ltb, eq-eqb, ne_eqb, ltb-true}
 use Rattle.lists.specs.Rows.{choose}
 use Rattle.guest.specs.declared.Bank.{Bank}
-use Rattle.guest.specs.declared.Guest.{Guest}
-use Rattle.guest.specs.declared.Outcome.{Outcome}
-use Rattle.guest.specs.Machine.{Machine, Result, view, Held, Does, refuse, accept, initialised}
+use Rattle.guest.specs.Machine.{Machine, refuse, accept, initialised}
 use Rattle.irqs.specs.declared.Spot.{Spot}
 use Rattle.banks.specs.Bank.{pending, lined}
-use Rattle.irqs.specs.Spots.{spot_of, bank_of, with_bank, Shows}
+use Rattle.irqs.specs.Spots.{spot_of, bank_of, with_bank}
 use Rattle.irqs.specs.Irqs.{irq_fault, irq_pending, change_irq, irq_line}
-
--- a struct handed back with an errno, and one that shows a machine with none
-pub does_refuse : (g : Guest) (o : Outcome) (e : ℕ) {r : Result} → Held g → o ≡ record { errno = e; guest = g } → r ≡ refuse (view g) e → Does o r
-does_refuse g o e h p q = rw (p, q) (record { is = refl; held = h })
-
-pub does_accept : (g : Guest) (o : Outcome) (m : Machine) → Shows g m → o ≡ record { errno = 0; guest = g } → Does o (accept m)
-does_accept g o m h p = rw p (record { is = ap accept h.is; held = h.held })
 
 module _ (k intid : ℕ) (m : Machine) where
   -- the tests of a fault, in their order
@@ -71,9 +62,9 @@ module _ (k intid : ℕ) (m : Machine) where
     change_refused c n = rw (faulty n, f)
 
     -- the code's spot, the bank there, and the bank stored
-    pub change_done : (c : Bank → Bank) (o : Outcome) (s : Spot) (b x : Bank) → e ≡ 0 → s ≡ spot_of k intid m → b ≡ bank_of s m → x ≡ c b
-        → Does o (accept (with_bank s x m)) → Does o (change_irq k intid c m)
-    change_done c o s b x z p q r d = rw (good z, ← p, ← q, ← r) d
+    pub change_done : (c : Bank → Bank) (s : Spot) (b x : Bank) → e ≡ 0 → s ≡ spot_of k intid m → b ≡ bank_of s m → x ≡ c b
+        → change_irq k intid c m ≡ accept (with_bank s x m)
+    change_done c s b x z p q r = rw (good z, ← p, ← q, ← r)
 
     module _ (level : ℕ) where
       pub line_refused : (e ≡ 0 → ⊥) → irq_line k intid level m ≡ refuse m e
@@ -88,7 +79,7 @@ module _ (k intid : ℕ) (m : Machine) where
       unfolding irq_line
       line_sgi z h n = rw (good z, le-ltb 1 level h, lt-ltb intid 16 n)
 
-      pub line_done : (o : Outcome) (s : Spot) (b x : Bank) → e ≡ 0 → level ≤ 1 → 16 ≤ intid → s ≡ spot_of k intid m → b ≡ bank_of s m → x ≡ lined (intid % 32) level b
-          → Does o (accept (with_bank s x m)) → Does o (irq_line k intid level m)
+      pub line_done : (s : Spot) (b x : Bank) → e ≡ 0 → level ≤ 1 → 16 ≤ intid → s ≡ spot_of k intid m → b ≡ bank_of s m → x ≡ lined (intid % 32) level b
+          → irq_line k intid level m ≡ accept (with_bank s x m)
       unfolding irq_line
-      line_done o s b x z h n p q r d = rw (good z, le-ltb 1 level h, le-ltb intid 16 n, ← p, ← q, ← r) d
+      line_done s b x z h n p q r = rw (good z, le-ltb 1 level h, le-ltb intid 16 n, ← p, ← q, ← r)

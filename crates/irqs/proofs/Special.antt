@@ -10,7 +10,7 @@ use lib.Dec.{ltb, eqb, lit<}
 use borrow.Author.Tests.{le-ltb}
 use Rattle.lists.specs.Rows.{choose}
 use Rattle.guest.specs.declared.Bank.{Bank}
-use Rattle.guest.specs.declared.Reading.{Reading}
+use Rattle.guest.specs.Machine.{Reading}
 use Rattle.guest.specs.Machine.{Machine, Result, no_bank, bank_bits, with_shared}
 use Rattle.guest.specs.Words.{BankFits}
 use Rattle.guest.proofs.Anchors.{bits_past}

@@ -2,7 +2,7 @@
 use Rattle.std.specs.Prelude.{ℕ, ◌%◌, length, ltb, eqb}
 use Rattle.lists.specs.Rows.{choose}
 use Rattle.guest.specs.declared.Bank.{Bank}
-use Rattle.guest.specs.declared.Reading.{Reading}
+use Rattle.guest.specs.Machine.{Reading}
 use Rattle.guest.specs.Machine.{Machine, Result, refuse, accept, initialised}
 use Rattle.banks.specs.Bank.{pending, raised, lowered, lined, with_trigger}
 use Rattle.irqs.specs.Spots.{spot_of, bank_of, with_bank, trigger_word}

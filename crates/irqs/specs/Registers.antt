@@ -5,7 +5,7 @@ use mathlib.Core.Bool.{Bool, ◌&&◌}
 use Rattle.lists.specs.Rows.{choose}
 use Rattle.fields.specs.Field.{get_field}
 use Rattle.guest.specs.declared.Vcpu.{Vcpu}
-use Rattle.guest.specs.declared.Reading.{Reading}
+use Rattle.guest.specs.Machine.{Reading}
 use Rattle.guest.specs.Machine.{Machine, Result, refuse, accept, initialised, is_running, with_control}
 use Rattle.irqs.specs.declared.Spot.{Spot}
 use Rattle.irqs.specs.declared.Spot.TheVariants.{Own}

@@ -1,5 +1,7 @@
 -- Where the bank of an INTID is (§4.2), and what stands where no bank is (§4.9).
-use Rattle.std.specs.Prelude.{ℕ, ◌/◌, ◌-◌, ◌<◌, ◌≡◌, Bool, length, get_or, set, ltb, eqb}
+use Rattle.answers.specs.declared.Errno.{Errno}
+use Rattle.answers.specs.declared.Errno.TheVariants.{EINVAL}
+use Rattle.std.specs.Prelude.{Result, Ok, Err, ℕ, ◌/◌, ◌-◌, ◌<◌, ◌≡◌, Bool, length, get_or, set, ltb, eqb}
 use Rattle.lists.specs.Rows.{choose, find_ix}
 use Rattle.fields.specs.Field.{put_field}
 use Rattle.guest.specs.declared.Bank.{Bank}
@@ -70,3 +72,8 @@ Stands Absent m = Unit
 pub record Shows (g : Guest) (m : Machine) : Type 0 where
   pub is : view g ≡ m
   pub held : Held g
+
+-- Inner: what a search for the VCPU of an affinity hands back: its number, or the refusal where no VCPU has it
+abbrev pub Names : ℕ → Machine → Result ℕ Errno → Type 0
+Names a m (Ok k) = (k ≡ vcpu_of a m) × (k < length m.vcpus)
+Names a m (Err e) = (e ≡ EINVAL) × (vcpu_of a m ≡ length m.vcpus)

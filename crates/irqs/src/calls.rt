@@ -1,30 +1,32 @@
 // The calls that name a VCPU and an INTID: any number may be named.
 ghost use Rattle.std.specs.Prelude.{◌≡◌, ◌%◌};
-ghost use Rattle.guest.specs.Machine.{view, Held, Does};
+ghost use Rattle.guest.specs.Machine.{view, Held};
+ghost use Rattle.guest.specs.Returned.{fault, reading, Does};
 ghost use Rattle.irqs.specs.Spots.{spot_of, Stands};
 ghost use Rattle.irqs.specs.Irqs.{irq_fault, irq_pending, irq_set, irq_clear, irq_line, irq_trigger};
 
 use super::Spot;
-use super::spots::{accepted, bank_of, spot_of, stored, trigger_word, vcpu_count};
+use super::spots::{bank_of, spot_of, trigger_word, vcpu_count, with_bank};
+use answers::Errno;
 use banks::{lined, lowered, pending, raised, with_trigger};
-use guest::{Guest, Outcome, Reading, refused, told};
+use guest::Guest;
 
-// What stops a call (§4.8), 0 for nothing. A VCPU that is not there is a fault at every INTID.
-fn irq_fault(g: Guest, vcpu: u64, intid: u64) -> u64
+// What stops a call (§4.8). A VCPU that is not there is a fault at every INTID.
+fn irq_fault(g: Guest, vcpu: u64, intid: u64) -> Result<(), Errno>
     requires { Held g }
-    ensures { result ≡ irq_fault vcpu intid (view g) }
+    ensures { fault result ≡ irq_fault vcpu intid (view g) }
 {
     if g.control.init != 1 {
-        return 6;
+        return Err(Errno::ENXIO);
     }
     let k = vcpu as usize;
     if vcpu_count(g) <= k {
-        return 22;
+        return Err(Errno::EINVAL);
     }
     if 1023 < intid {
-        return 22;
+        return Err(Errno::EINVAL);
     }
-    0
+    Ok(())
 }
 
 // The bit of an INTID in its bank.
@@ -43,76 +45,61 @@ fn good_spot(g: Guest, vcpu: u64, intid: u64) -> Spot
     spot_of(g, vcpu as usize, intid)
 }
 
-pub fn irq_pending(g: Guest, vcpu: u64, intid: u64) -> Reading
+pub fn irq_pending(g: Guest, vcpu: u64, intid: u64) -> Result<u64, Errno>
     requires { Held g }
-    ensures { result ≡ irq_pending vcpu intid (view g) }
+    ensures { reading result ≡ irq_pending vcpu intid (view g) }
 {
-    let e = irq_fault(g, vcpu, intid);
-    if e != 0 {
-        return told(e, 0);
-    }
+    irq_fault(g, vcpu, intid)?;
     let b = bank_of(g, good_spot(g, vcpu, intid));
-    told(0, pending(b, bit_of(intid)))
+    Ok(pending(b, bit_of(intid)))
 }
 
 // The guest raises an INTID's latch.
-pub fn irq_set(g: Guest, vcpu: u64, intid: u64) -> Outcome
+pub fn irq_set(g: Guest, vcpu: u64, intid: u64) -> Result<Guest, Errno>
     requires { Held g }
-    ensures { Does result (irq_set vcpu intid (view g)) }
+    ensures { Does (view g) result (irq_set vcpu intid (view g)) }
 {
-    let e = irq_fault(g, vcpu, intid);
-    if e != 0 {
-        return refused(g, e);
-    }
+    irq_fault(g, vcpu, intid)?;
     let spot = good_spot(g, vcpu, intid);
     let b = bank_of(g, spot);
-    stored(g, spot, raised(b, bit_of(intid)))
+    Ok(with_bank(g, spot, raised(b, bit_of(intid))))
 }
 
 // The guest, or an activation, lowers an INTID's latch.
-pub fn irq_clear(g: Guest, vcpu: u64, intid: u64) -> Outcome
+pub fn irq_clear(g: Guest, vcpu: u64, intid: u64) -> Result<Guest, Errno>
     requires { Held g }
-    ensures { Does result (irq_clear vcpu intid (view g)) }
+    ensures { Does (view g) result (irq_clear vcpu intid (view g)) }
 {
-    let e = irq_fault(g, vcpu, intid);
-    if e != 0 {
-        return refused(g, e);
-    }
+    irq_fault(g, vcpu, intid)?;
     let spot = good_spot(g, vcpu, intid);
     let b = bank_of(g, spot);
-    stored(g, spot, lowered(b, bit_of(intid)))
+    Ok(with_bank(g, spot, lowered(b, bit_of(intid))))
 }
 
 // A device's line goes to a level. An SGI has no line: nothing is stored, and a level above 1 is a fault for it too.
-pub fn irq_line(g: Guest, vcpu: u64, intid: u64, level: u64) -> Outcome
+pub fn irq_line(g: Guest, vcpu: u64, intid: u64, level: u64) -> Result<Guest, Errno>
     requires { Held g }
-    ensures { Does result (irq_line vcpu intid level (view g)) }
+    ensures { Does (view g) result (irq_line vcpu intid level (view g)) }
 {
-    let e = irq_fault(g, vcpu, intid);
-    if e != 0 {
-        return refused(g, e);
-    }
+    irq_fault(g, vcpu, intid)?;
     if 1 < level {
-        return refused(g, 22);
+        return Err(Errno::EINVAL);
     }
     if intid < 16 {
-        return accepted(g);
+        return Ok(g);
     }
     let spot = good_spot(g, vcpu, intid);
     let b = bank_of(g, spot);
-    stored(g, spot, lined(b, bit_of(intid), level))
+    Ok(with_bank(g, spot, lined(b, bit_of(intid), level)))
 }
 
 // The trigger word of the INTID's bank is stored, but for what is no interrupt's; no latch and no level changes.
-pub fn irq_trigger(g: Guest, vcpu: u64, intid: u64, word: u64) -> Outcome
+pub fn irq_trigger(g: Guest, vcpu: u64, intid: u64, word: u64) -> Result<Guest, Errno>
     requires { Held g }
-    ensures { Does result (irq_trigger vcpu intid word (view g)) }
+    ensures { Does (view g) result (irq_trigger vcpu intid word (view g)) }
 {
-    let e = irq_fault(g, vcpu, intid);
-    if e != 0 {
-        return refused(g, e);
-    }
+    irq_fault(g, vcpu, intid)?;
     let spot = good_spot(g, vcpu, intid);
     let b = bank_of(g, spot);
-    stored(g, spot, with_trigger(b, trigger_word(spot, word)))
+    Ok(with_bank(g, spot, with_trigger(b, trigger_word(spot, word))))
 }

@@ -7,7 +7,7 @@ mod registers;
 mod spots;
 
 // §4.2, §4.9: where the bank of an INTID is: the own one of a VCPU, by its number; a shared one, by its row, the bank of INTID 32 first;
-// or none, past the interrupt count.
+// or none, past the interrupt count: the three of the definition `spot_of`.
 #[derive(Clone, Copy)]
 pub enum Spot {
     Own(usize),
@@ -16,7 +16,7 @@ pub enum Spot {
 }
 
 // §4.11, §4.12: what an offset of a frame names: the latch word of a bank, by the bank's number; a word that reads 0 and ignores writes;
-// STATUSR; or nothing that is known.
+// STATUSR; or nothing that is known: the four of the definition `distributor_register`.
 #[derive(Clone, Copy)]
 pub enum Register {
     Latch(usize),

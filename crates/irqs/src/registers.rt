@@ -1,6 +1,7 @@
 // The registers of a frame: what an offset names, and reads and writes of what is named.
 ghost use Rattle.std.specs.Prelude.{◌≡◌, ◌<◌, length};
 ghost use Rattle.guest.specs.Machine.{view, Held};
+ghost use Rattle.guest.specs.Returned.{fault};
 ghost use Rattle.irqs.specs.Spots.{Shows};
 ghost use Rattle.irqs.specs.Registers.{
   distributor_register,
@@ -18,6 +19,7 @@ ghost use Rattle.irqs.specs.Registers.{
 
 use super::spots::{bank_of, shared_spot, vcpu_at, with_bank, with_vcpu};
 use super::{Register, Spot};
+use answers::Errno;
 use banks::with_latch;
 use guest::{Bank, Guest, Vcpu};
 
@@ -63,40 +65,35 @@ pub fn redistributor_register(offset: u64) -> Register
 }
 
 // Width, not ready, running, in this order.
-fn access_fault(g: Guest, width: u64) -> u64
-    ensures { result ≡ access_fault width (view g) }
+fn access_fault(g: Guest, width: u64) -> Result<(), Errno>
+    ensures { fault result ≡ access_fault width (view g) }
 {
     if width != 4 {
-        return 14;
+        return Err(Errno::EFAULT);
     }
     if g.control.init != 1 {
-        return 6;
+        return Err(Errno::ENXIO);
     }
     if g.control.running == 1 {
-        return 16;
+        return Err(Errno::EBUSY);
     }
-    0
+    Ok(())
 }
 
 fn is_known(r: Register) -> bool
     ensures { result ≡ is_known r }
 {
-    match r {
-        Register::Latch(_) => true,
-        Register::Zero => true,
-        Register::Status => true,
-        Register::Unknown => false,
-    }
+    !matches!(r, Register::Unknown)
 }
 
 // An unknown name comes before every other fault.
-pub fn register_fault(g: Guest, r: Register, width: u64) -> u64
-    ensures { result ≡ register_fault r width (view g) }
+pub fn register_fault(g: Guest, r: Register, width: u64) -> Result<(), Errno>
+    ensures { fault result ≡ register_fault r width (view g) }
 {
     if is_known(r) {
         return access_fault(g, width);
     }
-    6
+    Err(Errno::ENXIO)
 }
 
 fn with_status(g: Guest, status: u64) -> Guest

@@ -1,7 +1,6 @@
 // Where the bank of an INTID is, and the bank that stands there.
-ghost use Rattle.std.specs.Prelude.{◌≡◌, ◌<◌, ◌≤◌, length, take};
-ghost use Rattle.lists.specs.Rows.{find_ix};
-ghost use Rattle.guest.specs.Machine.{view, Held, Does, accept};
+ghost use Rattle.std.specs.Prelude.{◌≡◌, ◌<◌, ◌≤◌, length, position};
+ghost use Rattle.guest.specs.Machine.{view, Held};
 ghost use Rattle.irqs.specs.Spots.{
   shared_spot,
   spot_of,
@@ -19,7 +18,7 @@ ghost use Rattle.irqs.specs.Spots.{
 use super::Spot;
 use banks::trimmed;
 use fields::field_put;
-use guest::{Bank, Guest, Outcome, Vcpu, Vcpus};
+use guest::{Bank, Guest, Vcpu};
 
 pub fn vcpu_count(g: Guest) -> usize
     requires { Held g }
@@ -133,20 +132,6 @@ pub fn with_bank(g: Guest, spot: Spot, bank: Bank) -> Guest
     }
 }
 
-pub fn accepted(g: Guest) -> Outcome
-    ensures { result ≡ record { errno = 0; guest = g } }
-{
-    Outcome { errno: 0, guest: g }
-}
-
-// The bank stored, with no errno.
-pub fn stored(g: Guest, spot: Spot, bank: Bank) -> Outcome
-    requires { Held g × Stands spot (view g) }
-    ensures { Does result (accept (with_bank spot bank (view g))) }
-{
-    accepted(with_bank(g, spot, bank))
-}
-
 // In a VCPU's bank the SGIs, bits 15:0, stay edge whatever is written.
 pub fn trigger_word(spot: Spot, word: u64) -> u64
     ensures { result ≡ trigger_word spot word }
@@ -169,19 +154,9 @@ pub fn level_word(spot: Spot, word: u64) -> u64
     }
 }
 
-// The VCPU of an affinity, or the number of VCPUs where there is none.
-pub fn find_vcpu(v: Vcpus, affinity: u64) -> usize
-    requires { v.count ≤ 64 }
-    ensures { result ≡ find_ix (has_affinity affinity) (take v.count v.rows) }
+// The VCPU of an affinity.
+pub fn find_vcpu(vcpus: &[Vcpu], affinity: u64) -> Option<usize>
+    ensures { result ≡ position (has_affinity affinity) vcpus.now }
 {
-    let n = v.count;
-    let mut i: usize = 0;
-    while i < n {
-        let row = v.rows[i];
-        if row.affinity == affinity {
-            return i;
-        }
-        i += 1;
-    }
-    n
+    vcpus.iter().position(|v| v.affinity == affinity)
 }

@@ -1,14 +1,14 @@
 -- The frames that stand, tested pair by pair: a frame whose base is not set counts as an area with no byte. Assumes nothing.
 use Prim.Native.Nat.{ℕ, min, max}
 use native.Mathlib.Omega.{arith}
-use mathlib.Core.Path.{◌≡◌, refl, sym, ◌∙◌}
+use mathlib.Core.Path.{◌≡◌, refl, ◌∙◌}
 use mathlib.Core.Bool.{Bool, true, false, ◌&&◌, ◌||◌, not}
 use mathlib.Core.List.{List, [], ◌∷◌, ◌++◌, map, append_assoc, append-nil}
 use borrow.Author.Tests.{le-ltb, not-true}
 use Rattle.lists.specs.Rows.{choose}
 use Rattle.areas.specs.declared.Area.{Area}
 use Rattle.areas.specs.Area.{end_of, overlaps, strikes, apart}
-use Rattle.areas.proofs.Tests.{same, split, and_left, and_right, or_left, or_right}
+use Rattle.areas.proofs.Tests.{same, and_left, and_right}
 use Rattle.areas.proofs.Laws.{overlaps_sym, strikes_nil, strikes_cons, apart_behind, apart_remove, apart_free}
 use Rattle.guest.specs.declared.Frame.{Frame}
 use Rattle.guest.specs.declared.Frames.{Frames}
@@ -71,21 +71,13 @@ module _ (f : Frame) (size : ℕ) where
       go true = strikes_cons a whole l
       go false = rw (overlaps_nowhere f.base a)
 
--- what each test of the code says, and that the last one decides
-pub record Clear (l : List Area) (d s i : Area) : Type 0 where
-  pub its_distributor : overlaps i d ≡ false
-  pub its_single : overlaps i s ≡ false
-  pub its_regions : strikes l i ≡ false
-  pub distributor_single : overlaps d s ≡ false
-  pub distributor_regions : strikes l d ≡ false
-  pub single_regions : strikes l s ≡ false
-
+-- what the tests of the code say together
 module _ (m : Machine) (f : Frames) (size : ℕ) (d s i : Area) (hf : f ≡ m.frames) (hs : size ≡ run_size m)
     (hd : d ≡ area_of f.distributor distributor_size) (hr : s ≡ area_of f.single size) (hi : i ≡ area_of f.its its_size) where
   abbrev regions : List Area
   regions = map region_area m.regions
 
-  tests : apart (standing m) ≡ (not (overlaps i d || (overlaps i s || strikes regions i)) && (not (overlaps d s || strikes regions d) && (not (strikes regions s) && apart regions)))
+  pub tests : apart (standing m) ≡ (not (overlaps i d || (overlaps i s || strikes regions i)) && (not (overlaps d s || strikes regions d) && (not (strikes regions s) && apart regions)))
   unfolding standing
   tests =
       rw (
@@ -102,22 +94,3 @@ module _ (m : Machine) (f : Frames) (size : ℕ) (d s i : Area) (hf : f ≡ m.fr
         strikes_before m.frames.single (run_size m) regions (area_of m.frames.distributor distributor_size),
         apart_before m.frames.single (run_size m),
       )
-
-  pub clear_parts : apart (standing m) ≡ true → Clear regions d s i
-  clear_parts e =
-      let p = split (not (overlaps i d || (overlaps i s || strikes regions i))) (not (overlaps d s || strikes regions d) ∷ not (strikes regions s) ∷ apart regions ∷ []) (sym tests ∙ e) in
-      let a = not-true (overlaps i d || (overlaps i s || strikes regions i)) p.0 in
-      let b = or_right (overlaps i d) (overlaps i s || strikes regions i) a in
-      let c = not-true (overlaps d s || strikes regions d) p.1.0 in
-      record {
-        its_distributor = or_left (overlaps i d) (overlaps i s || strikes regions i) a;
-        its_single = or_left (overlaps i s) (strikes regions i) b;
-        its_regions = or_right (overlaps i s) (strikes regions i) b;
-        distributor_single = or_left (overlaps d s) (strikes regions d) c;
-        distributor_regions = or_right (overlaps d s) (strikes regions d) c;
-        single_regions = not-true (strikes regions s) p.1.1.0;
-      }
-
-  pub apart_last : {b : Bool} → Clear regions d s i → b ≡ apart regions → b ≡ apart (standing m)
-  apart_last c q =
-      rw (tests, c.its_distributor, c.its_single, c.its_regions, c.distributor_single, c.distributor_regions, c.single_regions) q

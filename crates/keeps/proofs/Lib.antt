@@ -1,4 +1,3 @@
 pub mod Rows
 pub mod Apart
 pub mod Verdicts
-pub mod BankTests

@@ -1,115 +1,80 @@
--- The loops over the rows that bytes hold: what is left of the rows says what the whole does. Each law is the one over the first n
--- rows of a table, where n is how many rows there are. Assumes nothing.
-use Prim.Native.Nat.{ℕ, zero, suc, ◌+◌, ◌-◌, ◌≤◌, ◌<◌}
-use native.Mathlib.Nat.{le_of_suc-le-suc, not-suc-le-zero}
+-- The rows that bytes hold, read one at a time: a test of each index says what the list says. Assumes nothing.
+use Prim.Native.Nat.{ℕ, zero, suc, ◌+◌, ◌<◌}
 use native.Mathlib.Omega.{arith}
 use mathlib.Core.Path.{◌≡◌, refl, sym, ap, ◌∙◌}
-use mathlib.Core.Bool.{Bool, true, false}
-use mathlib.Core.List.{List, [], ◌∷◌, map}
-use lib.ListN.{length, get_or, take, drop, length-map, get_or-map}
-use lib.Seq.{take_all}
-use lib.Dec.{leb, eqb}
-use borrow.Author.Tests.{ne_eqb}
+use mathlib.Core.Bool.{Bool, true, false, ◌&&◌, ◌||◌, not}
+use mathlib.Core.List.{List, [], map}
+use lib.ListN.{length, get_or, drop, length-map, get_or-map}
+use lib.Dec.{eqb}
+use Rattle.std.proofs.lemmas.List.{at_drop_more, at_drop_all}
+use Rattle.std.specs.List.{list_all, list_any, range_with_len}
 use Rattle.lists.specs.Rows.{all}
-use Rattle.lists.proofs.Find.{all_fails, all_hold}
 use Rattle.areas.specs.declared.Area.{Area}
 use Rattle.areas.specs.Area.{overlaps, strikes, apart}
-use Rattle.areas.proofs.Table as table
-use Rattle.areas.proofs.Table.{no_area}
+use Rattle.areas.proofs.Laws.{strikes_nil, strikes_cons}
+use Rattle.areas.proofs.Has.{has_nil, has_cons}
 use Rattle.guest.specs.declared.Region.{Region}
 use Rattle.guest.specs.declared.Vcpu.{Vcpu}
 use Rattle.guest.specs.Machine.{no_region, no_vcpu}
-use Rattle.rules.specs.Standing.{total, region_area, small_count}
-use Rattle.rules.specs.Rules.{taken, distinct}
-use Rattle.rules.proofs.Rows as rows
-use Rattle.rules.proofs.Rows.{blank_vcpu}
+use Rattle.rules.specs.Standing.{region_area}
+use Rattle.rules.specs.Rules.{has_affinity, taken, distinct}
 
--- a row that is there, whatever is said to stand past the last one
-row_any : {A : Type 0} (l : List A) (i : ℕ) (d e : A) → i < length l → get_or l i d ≡ get_or l i e
-row_any [] i d e h = absurd (not-suc-le-zero h)
-row_any (x ∷ l) zero d e h = refl
-row_any (x ∷ l) (suc i) d e h = row_any l i d e (le_of_suc-le-suc h)
+-- a question that a list answers row by row
+module _ {A : Type 0} (F : List A → Bool) (l : List A) (t : ℕ → Bool) where
+  -- whether each row from the one at `a` on passes
+  pub each_row : F [] ≡ true → ((i : ℕ) → i < length l → F (drop i l) ≡ (t i && F (drop (i + 1) l)))
+      → (n a : ℕ) → a + n ≡ length l → list_all t (range_with_len a n) ≡ F (drop a l)
+  each_row e f zero a h = sym (at_drop_all F l a (omega arith) ∙ e)
+  each_row e f (suc n) a h = ap (λ (b : Bool). t a && b) (each_row e f n (a + 1) (omega arith)) ∙ sym (f a (omega arith))
 
-module _ {A : Type 0} (l : List A) (n : ℕ) (long : n ≡ length l) where
-  fits : n ≤ length l
-  fits = omega arith
+  -- whether one does
+  pub some_row : F [] ≡ false → ((i : ℕ) → i < length l → F (drop i l) ≡ (t i || F (drop (i + 1) l)))
+      → (n a : ℕ) → a + n ≡ length l → list_any t (range_with_len a n) ≡ F (drop a l)
+  some_row e f zero a h = sym (at_drop_all F l a (omega arith) ∙ e)
+  some_row e f (suc n) a h = ap (λ (b : Bool). t a || b) (some_row e f n (a + 1) (omega arith)) ∙ sym (f a (omega arith))
 
-  whole : take n l ≡ l
-  whole = take_all n l (omega arith)
+-- a test of every row
+module _ {A : Type 0} (p : A → Bool) (d : A) (l : List A) where
+  pub rows_all : (n : ℕ) → n ≡ length l → list_all (λ i. p (get_or l i d)) (range_with_len 0 n) ≡ all p l
+  unfolding all
+  rows_all n e = each_row (all p) l (λ i. p (get_or l i d)) refl (λ i h. at_drop_more (all p) l i d h) n 0 (omega (arith, e))
 
-  row_there : (i : ℕ) → i < n → i < length l
-  row_there i h = omega arith
+-- the areas of regions
+module _ (l : List Region) where
+  abbrev no_area : Area
+  no_area = region_area no_region
 
-  -- a test of every row: one fails, or none does
-  module _ (p : A → Bool) (d : A) where
-    pub rows_fail : (i : ℕ) (r : A) → r ≡ get_or l i d → i < n → p r ≡ false → all p l ≡ false
-    rows_fail i r e h t = all_fails p d l i (row_there i h) (rw (← e) t)
-
-    pub rows_hold : (i : ℕ) → n ≤ i → ((k : ℕ) → k < i → p (get_or l k d) ≡ true) → all p l ≡ true
-    rows_hold i h b = all_hold p d l (λ k g. b k (omega arith))
-
--- the regions: their counts, their room and their areas
-module _ (l : List Region) (n : ℕ) (long : n ≡ length l) (i : ℕ) where
   abbrev places : List Area
   places = map region_area l
 
-  many : n ≡ length places
-  many = long ∙ sym (length-map l region_area)
+  place_at : (i : ℕ) → get_or places i no_area ≡ region_area (get_or l i no_region)
+  place_at i = get_or-map region_area l i no_region
 
-  pub covers_end : (left : ℕ) → n ≤ i → leb left (total (drop i l)) ≡ eqb left 0
-  covers_end left h = rw (whole l n long) at (rows.covers_end n l i (fits l n long) left h)
+  pub region_strikes : (a : Area) (n from : ℕ) → from + n ≡ length l → list_any (λ i. overlaps a (region_area (get_or l i no_region))) (range_with_len from n) ≡ strikes (drop from places) a
+  region_strikes a n from h =
+      some_row (λ k. strikes k a) places (λ i. overlaps a (region_area (get_or l i no_region))) (strikes_nil a)
+      (λ i g. at_drop_more (λ k. strikes k a) places i no_area g ∙ strikes_cons a (get_or places i no_area) (drop (i + 1) places)
+      ∙ ap (λ (x : Area). overlaps a x || strikes (drop (i + 1) places) a) (place_at i))
+      n from (h ∙ sym (length-map l region_area))
 
-  pub struck_end : (a : Area) → n ≤ i → strikes (drop i places) a ≡ false
-  struck_end a h = rw (whole places n many) at (table.strikes_end n places i (fits places n many) a h)
+  pub regions_clear : (n : ℕ) → n ≡ length l → list_all (λ i. not (strikes (drop (i + 1) places) (region_area (get_or l i no_region)))) (range_with_len 0 n) ≡ apart places
+  unfolding apart
+  regions_clear n h =
+      each_row apart places (λ i. not (strikes (drop (i + 1) places) (region_area (get_or l i no_region)))) refl
+      (λ i g. at_drop_more apart places i no_area g
+      ∙ ap (λ (x : Area). not (strikes (drop (i + 1) places) x) && apart (drop (i + 1) places)) (place_at i))
+      n 0 (let e = length-map l region_area in omega (arith, e, h))
 
-  pub apart_end : n ≤ i → apart (drop i places) ≡ true
-  apart_end h = rw (whole places n many) at (table.apart_end n places i (fits places n many) h)
+-- the affinities of VCPUs
+module _ (l : List Vcpu) where
+  pub vcpu_taken : (a n from : ℕ) → from + n ≡ length l → list_any (λ i. eqb (get_or l i (no_vcpu 0)).affinity a) (range_with_len from n) ≡ taken (drop from l) a
+  unfolding taken
+  vcpu_taken a n from h =
+      some_row (λ k. taken k a) l (λ i. eqb (get_or l i (no_vcpu 0)).affinity a) (has_nil (has_affinity a))
+      (λ i g. at_drop_more (λ k. taken k a) l i (no_vcpu 0) g ∙ has_cons (has_affinity a) (get_or l i (no_vcpu 0)) (drop (i + 1) l))
+      n from h
 
-  module _ (r : Region) (e : r ≡ get_or l i no_region) (h : i < n) where
-    pub count_small : all small_count l ≡ true → r.count < 4096
-    count_small a = rw e (rows.count_small n l i (fits l n long) h (rw (whole l n long) a))
-
-    pub covers_here : (left : ℕ) → left ≤ r.count → leb left (total (drop i l)) ≡ true
-    covers_here left g = rw (whole l n long) at (rows.covers_here n l i (fits l n long) left h (rw e at g))
-
-    pub covers_later : (left : ℕ) → r.count < left → leb left (total (drop i l)) ≡ leb (left - r.count) (total (drop (i + 1) l))
-    covers_later left g = rw (whole l n long, ← e) at (rows.covers_later n l i (fits l n long) left h (rw e at g))
-
-    area_at : get_or places i no_area ≡ region_area r
-    area_at = get_or-map region_area l i no_region ∙ ap region_area (sym e)
-
-    pub struck_here : (a : Area) → overlaps a (region_area r) ≡ true → strikes (drop i places) a ≡ true
-    struck_here a o = rw (whole places n many) at (table.strikes_here n places i (fits places n many) a h (rw area_at o))
-
-    pub struck_later : (a : Area) → overlaps a (region_area r) ≡ false → strikes (drop i places) a ≡ strikes (drop (i + 1) places) a
-    struck_later a o = rw (whole places n many) at (table.strikes_later n places i (fits places n many) a h (rw area_at o))
-
-    pub apart_here : strikes (drop (i + 1) places) (region_area r) ≡ true → apart (drop i places) ≡ false
-    apart_here s = rw (whole places n many) at (table.apart_here n places i (fits places n many) h (rw (whole places n many, area_at) s))
-
-    pub apart_later : strikes (drop (i + 1) places) (region_area r) ≡ false → apart (drop i places) ≡ apart (drop (i + 1) places)
-    apart_later s = rw (whole places n many) at (table.apart_later n places i (fits places n many) h (rw (whole places n many, area_at) s))
-
--- the affinities of the VCPUs
-module _ (l : List Vcpu) (n : ℕ) (long : n ≡ length l) (i : ℕ) where
-  pub taken_end : (a : ℕ) → n ≤ i → taken (drop i l) a ≡ false
-  taken_end a h = rw (whole l n long) at (rows.taken_end n l i (fits l n long) a h)
-
-  pub distinct_end : n ≤ i → distinct (drop i l) ≡ true
-  distinct_end h = rw (whole l n long) at (rows.distinct_end n l i (fits l n long) h)
-
-  module _ (v : Vcpu) (e : v ≡ get_or l i (no_vcpu 0)) (h : i < n) where
-    affinity_at : (get_or l i blank_vcpu).affinity ≡ v.affinity
-    affinity_at = ap (λ (x : Vcpu). x.affinity) (row_any l i blank_vcpu (no_vcpu 0) (row_there l n long i h) ∙ sym e)
-
-    pub taken_here : (a : ℕ) → v.affinity ≡ a → taken (drop i l) a ≡ true
-    taken_here a q = rw (whole l n long) at (rows.taken_here n l i (fits l n long) a h (affinity_at ∙ q))
-
-    pub taken_later : (a : ℕ) → (v.affinity ≡ a → ⊥) → taken (drop i l) a ≡ taken (drop (i + 1) l) a
-    taken_later a k = rw (whole l n long) at (rows.taken_later n l i (fits l n long) a h (rw affinity_at (ne_eqb v.affinity a k)))
-
-    pub distinct_here : taken (drop (i + 1) l) v.affinity ≡ true → distinct (drop i l) ≡ false
-    distinct_here t = rw (whole l n long) at (rows.distinct_here n l i (fits l n long) h (rw (whole l n long, affinity_at) t))
-
-    pub distinct_later : taken (drop (i + 1) l) v.affinity ≡ false → distinct (drop i l) ≡ distinct (drop (i + 1) l)
-    distinct_later t = rw (whole l n long) at (rows.distinct_later n l i (fits l n long) h (rw (whole l n long, affinity_at) t))
+  pub vcpus_distinct : (n : ℕ) → n ≡ length l → list_all (λ i. not (taken (drop (i + 1) l) (get_or l i (no_vcpu 0)).affinity)) (range_with_len 0 n) ≡ distinct l
+  unfolding distinct
+  vcpus_distinct n e =
+      each_row distinct l (λ i. not (taken (drop (i + 1) l) (get_or l i (no_vcpu 0)).affinity)) refl (λ i g. at_drop_more distinct l i (no_vcpu 0) g) n 0 (omega (arith, e))

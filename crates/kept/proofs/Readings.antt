@@ -15,7 +15,7 @@ use Rattle.fields.proofs.Laws.{get_lt, put_grows}
 use Rattle.areas.specs.Area.{ends_by}
 use Rattle.guest.specs.declared.Frame.{Frame}
 use Rattle.guest.specs.declared.Region.{Region}
-use Rattle.guest.specs.declared.Reading.{Reading}
+use Rattle.guest.specs.Machine.{Reading}
 use Rattle.guest.specs.Machine.{Machine, initialised, is_set}
 use Rattle.rules.specs.Standing.{run_size, redistributor_size}
 use Rattle.rules.specs.Rules.{limit_of, irqs_ok, frame_ok, region_ok}

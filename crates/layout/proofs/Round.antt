@@ -18,7 +18,8 @@ use Rattle.guest.specs.declared.Vcpu.{Vcpu}
 use Rattle.guest.specs.Machine.{Machine, shared_count}
 use Rattle.guest.specs.Words.{Words, RegionWords, VcpuWords, BankWords}
 use Rattle.layout.specs.Layout.{size, memory_of, control_of, frames_of, tables_of, region_of, region_bytes, region_words, vcpu_of, vcpu_bytes, vcpu_words, bank_of, bank_bytes, bank_words, head_words, head_bytes, decode, stored}
-use Rattle.layout.proofs.Sizes.{region_sized, vcpu_sized, bank_sized, head_sized}
+use Rattle.layout.specs.Sizes.{region_sized, vcpu_sized, bank_sized}
+use Rattle.layout.proofs.Sizes.{head_sized}
 
 -- number k of a run of numbers that nothing follows
 word_of : (n : ℕ) (ws : List ℕ) (k : ℕ) → All (λ w. w < 256 ^ n) ws → k < length ws → le_at (bytes_all (bytes_of n) ws) (k * n) n ≡ get_or ws k 0

@@ -44,15 +44,15 @@ module _ (b : ℕ) (two : 1 < b) where
       lt_of_not-le (λ g. not-le_of_lt h (le_trans (pow-le-pow_right (omega arith) (omega arith)) (f.2 (omega arith)))) in
       omega arith
 
-  -- its digits and the byte that ends them, in a buffer
-  pub number_added : (n k m : ℕ) (l before : List ℕ) (at end : ℕ) (after : List ℕ) (r : ℕ) → 0 < m → n < b ^ m → IsDigitCount b 1 n k
+  -- its digits and the byte that ends them, behind a text
+  pub number_added : (n k m : ℕ) (l before after : List ℕ) (end : ℕ) → 0 < m → n < b ^ m → IsDigitCount b 1 n k
       → k ≡ length (take k l) → take k l ≡ last_digits b k n
-      → Adds before at (take k l ++ (end ∷ [])) (length (take k l) + 1) after r
-      → Adds before at (spelled b (suc n) n ++ (end ∷ [])) (m + 1) after r
-  number_added n k m l before at end after r p h f count is a =
+      → Adds before (take k l ++ (end ∷ [])) (length (take k l) + 1) after
+      → Adds before (spelled b (suc n) n ++ (end ∷ [])) (m + 1) after
+  number_added n k m l before after end p h f count is a =
       let few = digits_few n k m p h f in
       let most = a.most in
       record {
-        is = a.is ∙ ap (λ (t : List ℕ). take at before ++ (t ++ (end ∷ []))) (is ∙ digits_spelled (suc n) k n (omega arith) f);
+        is = a.is ∙ ap (λ (t : List ℕ). before ++ (t ++ (end ∷ []))) (is ∙ digits_spelled (suc n) k n (omega arith) f);
         most = omega arith;
       }

@@ -1,5 +1,5 @@
 -- Text as the list of its bytes, and numbers as text.
-use Rattle.std.specs.Prelude.{ℕ, zero, suc, ◌+◌, ◌/◌, ◌%◌, ◌≤◌, ◌≡◌, List, [], ◌∷◌, ◌++◌, take, ltb}
+use Rattle.std.specs.Prelude.{ℕ, zero, suc, ◌+◌, ◌/◌, ◌%◌, ◌≤◌, ◌≡◌, List, [], ◌∷◌, ◌++◌, length, ltb}
 use Prim.Native.Char.{code}
 use Prim.Native.String.{String, [] as none, ◌∷◌ as ◌then◌}
 use Rattle.lists.specs.Rows.{choose}
@@ -31,7 +31,7 @@ module _ {A : Type 0} where
   lines line [] = []
   lines line (x ∷ xs) = line x ++ lines line xs
 
--- Inner: the promise of the code that puts text: the first r bytes are now those before at, and text; r is at most room more than at
-pub record Adds (before : List ℕ) (at : ℕ) (text : List ℕ) (room : ℕ) (after : List ℕ) (r : ℕ) : Type 0 where
-  pub is : take r after ≡ take at before ++ text
-  pub most : r ≤ at + room
+-- Inner: the promise of the code that puts text: it stands behind what was there before, and takes at most so much room
+pub record Adds (before text : List ℕ) (room : ℕ) (after : List ℕ) : Type 0 where
+  pub is : after ≡ before ++ text
+  pub most : length after ≤ length before + room

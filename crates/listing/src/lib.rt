@@ -1,101 +1,92 @@
 // The rows of a mapping as lines of text. A number takes at most 20 bytes in decimal and 16 in hexadecimal, and one ends it.
 #![tactic(auto)]
 
-ghost use Rattle.std.specs.Prelude.{◌+◌, ◌≤◌, length};
+ghost use Rattle.std.specs.Prelude.{◌≡◌, ℕ, List, ◌++◌, ◌+◌, ◌*◌, ◌≤◌, length};
 ghost use Rattle.mapping.specs.Mapped.{rows, Within};
-ghost use Rattle.lines.specs.Text.{Adds};
-ghost use Rattle.listing.specs.Listing.{collection_line, device_line, event_line, table, listing, listing_room};
+ghost use Rattle.lines.specs.Text.{ascii, decimal, lines, Adds};
+ghost use Rattle.listing.specs.Listing.{collection_line, device_line, event_line, listing, listing_room};
 
+use arrayvec::ArrayVec;
 use mapping::{Collection, Device, Event, Mapping};
 
 // The bytes of the longest listing.
-pub const ROOM: usize = 88666;
+const ROOM: usize = 88666;
+
+// A text with room for it.
+pub type Text = ArrayVec<u8, ROOM>;
 
 const SPACE: u8 = b' ';
 
 const NEWLINE: u8 = b'\n';
 
-fn put_collection(out: &mut [u8], at: usize, c: Collection) -> usize
-    requires { at + 42 ≤ length out.old }
-    ensures { Adds out.old at (collection_line c) 42 out.new result }
-{
-    let pe = lines::put_decimal(out, at, c.icid, SPACE);
-    lines::put_decimal(out, pe, c.pe, NEWLINE)
+// A row that is a line of its own, of so many bytes at most.
+trait Line: Copy {
+    ghost line: { Self → List ℕ };
+
+    ghost most: { ℕ };
+
+    fn put(self, out: &mut Text)
+        requires { length out.old.items + most ≤ listing_room }
+        ensures { Adds out.old.items (line self) most out.new.items };
 }
 
-fn put_device(out: &mut [u8], at: usize, d: Device) -> usize
-    requires { at + 59 ≤ length out.old }
-    ensures { Adds out.old at (device_line d) 59 out.new result }
-{
-    let itt = lines::put_decimal(out, at, d.id, SPACE);
-    let bits = lines::put_hexadecimal(out, itt, d.itt, SPACE);
-    lines::put_decimal(out, bits, d.bits, NEWLINE)
-}
+impl Line for Collection {
+    ghost line = { collection_line };
 
-fn put_event(out: &mut [u8], at: usize, e: Event) -> usize
-    requires { at + 84 ≤ length out.old }
-    ensures { Adds out.old at (event_line e) 84 out.new result }
-{
-    let event = lines::put_decimal(out, at, e.device as u64, SPACE);
-    let lpi = lines::put_decimal(out, event, e.event as u64, SPACE);
-    let icid = lines::put_decimal(out, lpi, e.lpi as u64, SPACE);
-    lines::put_decimal(out, icid, e.icid as u64, NEWLINE)
-}
+    ghost most = { 42 };
 
-// 33 bytes for the heading, 42 for each of 16 rows.
-fn put_collections(k: Mapping, out: &mut [u8], at: usize) -> usize
-    requires { (Within k) × (at + 705 ≤ length out.old) }
-    ensures { Adds out.old at (table "collections " collection_line (rows k).collections) 705 out.new result }
-{
-    let n = k.ncollections;
-    let mut next = lines::put_line(out, at, b"collections ", n as u64);
-    let mut i: usize = 0;
-    while i < n {
-        let c = k.collections[i];
-        next = put_collection(out, next, c);
-        i += 1;
+    fn put(self, out: &mut Text) {
+        lines::put_decimal(out, self.icid, SPACE);
+        lines::put_decimal(out, self.pe, NEWLINE);
     }
-    next
 }
 
-// 29 bytes for the heading, 59 for each of 32 rows.
-fn put_devices(k: Mapping, out: &mut [u8], at: usize) -> usize
-    requires { (Within k) × (at + 1917 ≤ length out.old) }
-    ensures { Adds out.old at (table "devices " device_line (rows k).devices) 1917 out.new result }
-{
-    let n = k.ndevices;
-    let mut next = lines::put_line(out, at, b"devices ", n as u64);
-    let mut i: usize = 0;
-    while i < n {
-        let d = k.devices[i];
-        next = put_device(out, next, d);
-        i += 1;
+impl Line for Device {
+    ghost line = { device_line };
+
+    ghost most = { 59 };
+
+    fn put(self, out: &mut Text) {
+        lines::put_decimal(out, self.id, SPACE);
+        lines::put_hexadecimal(out, self.itt, SPACE);
+        lines::put_decimal(out, self.bits, NEWLINE);
     }
-    next
 }
 
-// 28 bytes for the heading, 84 for each of 1,024 rows.
-fn put_events(k: Mapping, out: &mut [u8], at: usize) -> usize
-    requires { (Within k) × (at + 86044 ≤ length out.old) }
-    ensures { Adds out.old at (table "events " event_line (rows k).events) 86044 out.new result }
-{
-    let n = k.nevents;
-    let mut next = lines::put_line(out, at, b"events ", n as u64);
-    let mut i: usize = 0;
-    while i < n {
-        let e = k.events[i];
-        next = put_event(out, next, e);
-        i += 1;
+impl Line for Event {
+    ghost line = { event_line };
+
+    ghost most = { 84 };
+
+    fn put(self, out: &mut Text) {
+        lines::put_decimal(out, self.device as u64, SPACE);
+        lines::put_decimal(out, self.event as u64, SPACE);
+        lines::put_decimal(out, self.lpi as u64, SPACE);
+        lines::put_decimal(out, self.icid as u64, NEWLINE);
     }
-    next
 }
 
-// The whole mapping at the start of a buffer.
-pub fn put_mapping(k: Mapping, out: &mut [u8]) -> usize
-    requires { (Within k) × (listing_room ≤ length out.old) }
-    ensures { Adds out.old 0 (listing (rows k)) listing_room out.new result }
+// A line with the number of rows, then a line for each.
+fn put_table<T: Line>(out: &mut Text, name: &[u8], rows: &[T])
+    requires { length out.old.items + (length name.now + 21 + T.most * length rows.now) ≤ listing_room }
+    ensures { Adds out.old.items (name.now ++ decimal (length rows.now) ++ ascii "\n" ++ lines T.line rows.now)
+        (length name.now + 21 + T.most * length rows.now) out.new.items }
 {
-    let devices = put_collections(k, out, 0);
-    let events = put_devices(k, out, devices);
-    put_events(k, out, events)
+    lines::put_line(out, name, rows.len() as u64);
+    for row in rows {
+        row.put(out);
+    }
+}
+
+// The whole mapping. 33 bytes for the heading of the collections and 42 for each of 16, 29 for that of the devices and 59 for each of 32,
+// 28 for that of the events and 84 for each of 1,024.
+pub fn mapping_text(k: &Mapping) -> Text
+    requires { Within k.now }
+    ensures { result.items ≡ listing (rows k.now) }
+{
+    let mut out = Text::new();
+    put_table(&mut out, b"collections ", &k.collections[..k.ncollections]);
+    put_table(&mut out, b"devices ", &k.devices[..k.ndevices]);
+    put_table(&mut out, b"events ", &k.events[..k.nevents]);
+    out
 }

@@ -1,21 +1,20 @@
 -- The loops over the rows of a table: those that ask whether keys rise, and those that test each row. `n` is the number that the code
 -- read, and `l` the rows that the bytes stand for. Assumes nothing.
-use Prim.Native.Nat.{ℕ, ◌+◌, ◌≤◌, ◌<◌}
+use Prim.Native.Nat.{ℕ, zero, suc, ◌+◌, ◌-◌, ◌≤◌, ◌<◌}
 use native.Mathlib.Nat.{not-suc-le-zero}
 use native.Mathlib.Numerals.{add-one}
 use native.Mathlib.Omega.{arith}
-use mathlib.Core.Path.{◌≡◌, refl, sym, ap, ◌∙◌}
-use mathlib.Core.Bool.{Bool, true, false, ◌&&◌}
+use mathlib.Core.Path.{◌≡◌, sym, ap, ◌∙◌}
+use mathlib.Core.Bool.{Bool, true, false}
 use mathlib.Core.List.{List, ◌∷◌}
-use mathlib.Core.Logic.{⊎_elim}
 use lib.ListN.{length, get_or, take, drop, drop_of_length-le}
 use lib.Seq.{drop-cons, take_all}
 use lib.Dec.{ltb, eqb}
+use Rattle.std.specs.List.{list_all, range_with_len}
 use borrow.Author.Count.{below_more}
-use borrow.Author.Tests.{lt-ltb, le-ltb, eq-eqb, ne_eqb}
+use borrow.Author.Tests.{eq-eqb, ne_eqb}
 use Rattle.lists.specs.Rows.{all}
 use Rattle.lists.proofs.Find.{all_fails, all_hold}
-use Rattle.areas.proofs.Tests.{lt_or_ge}
 use Rattle.mapping.specs.Mapped.{find_key, rising}
 use Rattle.mapping.proofs.Table.{Seeking, seek_turn, seek_here, seek_end}
 
@@ -41,42 +40,36 @@ module _ {A : Type 0} (key : A → ℕ) (k : ℕ) (d : A) (n : ℕ) (l : List A)
     pub key_end : n ≡ length l → n ≤ i → n ≡ find_key key k l
     key_end e h = whole e (seek_end (λ x. eqb (key x) k) d n l i v h)
 
--- keys rise where they rise from the row at i on
-module _ {A : Type 0} (key : A → ℕ) (d : A) (n : ℕ) (l : List A) where
-  pub record Climbing (i : ℕ) : Type 0 where
-    pub count : n ≡ length l
-    pub end : i ≤ n
-    pub left : rising key l ≡ rising key (drop i l)
+-- a test of each index, where it is the test of the row there
+module _ {A : Type 0} (p : A → Bool) (d : A) (l : List A) where
+  abbrev at : ℕ → Bool
+  at j = p (get_or l j d)
 
-  pub climb_start : n ≡ length l → Climbing 0
-  climb_start e = record { count = e; end = omega arith; left = refl }
+  all_from : (n i : ℕ) → i + n ≡ length l → list_all at (range_with_len i n) ≡ all p (drop i l)
+  unfolding all
+  all_from zero i h = rw (drop_of_length-le l {i = i} (omega arith))
+  all_from (suc n) i h = rw (left_from d l i (omega arith), all_from n (i + 1) (omega arith))
 
-  module _ (i : ℕ) (v : Climbing i) where
-    -- two rows are left: the keys of the first two decide, with what is left from the second on
-    climb_two : {a b : ℕ} → i + 1 < n → a ≡ key (get_or l i d) → b ≡ key (get_or l (i + 1) d) → rising key l ≡ (ltb a b && rising key (drop (i + 1) l))
-    unfolding rising
-    climb_two h p q =
-        let e = left_from d l (i + 1) (omega (arith, v.count)) in
-        v.left ∙ ap (rising key) (left_from d l i (omega (arith, v.count))) ∙ rw (p, q, e)
+  pub all_rows : {n : ℕ} → n ≡ length l → list_all at (range_with_len 0 (n - 0)) ≡ all p l
+  all_rows {n} e = all_from (n - 0) 0 (omega arith)
 
-    pub climb_turn : {a b : ℕ} → i + 1 < n → a ≡ key (get_or l i d) → b ≡ key (get_or l (i + 1) d) → a < b → Climbing (i + 1)
-    climb_turn {a} {b} h p q t = record {
-      count = v.count;
-      end = omega arith;
-      left = climb_two h p q ∙ ap (λ (c : Bool). c && rising key (drop (i + 1) l)) (lt-ltb a b t);
-    }
+-- keys rise where each is above the one before
+module _ {A : Type 0} (key : A → ℕ) (d : A) (l : List A) where
+  abbrev above : ℕ → Bool
+  above j = ltb (key (get_or l (j - 1) d)) (key (get_or l j d))
 
-    pub climb_fall : {a b : ℕ} → i + 1 < n → a ≡ key (get_or l i d) → b ≡ key (get_or l (i + 1) d) → b ≤ a → false ≡ rising key l
-    climb_fall {a} {b} h p q t = sym (climb_two h p q ∙ ap (λ (c : Bool). c && rising key (drop (i + 1) l)) (le-ltb a b t))
+  rise_from : (n i : ℕ) → i + 1 + n ≡ length l → list_all above (range_with_len (i + 1) n) ≡ rising key (drop i l)
+  unfolding rising
+  rise_from zero i h = rw (left_from d l i (omega arith), drop_of_length-le l {i = i + 1} (omega arith))
+  rise_from (suc n) i h =
+      let f : i + 1 - 1 ≡ i = omega arith in
+      let r : list_all above (range_with_len (i + 1 + 1) n) ≡ rising key (drop (i + 1) l) = rise_from n (i + 1) (omega arith) in
+      rw (f, r, left_from d l i (omega arith), left_from d l (i + 1) (omega arith))
 
-    -- one row is left, or none
-    pub climb_end : n ≤ i + 1 → true ≡ rising key l
-    unfolding rising
-    climb_end h =
-        let e = v.count in
-        sym (v.left ∙ ⊎_elim
-        (λ g. ap (rising key) (left_from d l i (omega arith) ∙ ap (λ (x : List A). get_or l i d ∷ x) (drop_of_length-le l {i = i + 1} (omega arith))))
-        (λ g. ap (rising key) (drop_of_length-le l {i = i} (omega arith))) (lt_or_ge i n))
+  pub keys_above : {n : ℕ} → n ≡ length l → list_all above (range_with_len 1 (n - 1)) ≡ rising key l
+  unfolding rising
+  keys_above {n = zero} e = rw (drop_of_length-le l {i = 0} (omega arith))
+  keys_above {n = suc n} e = let f : suc n - 1 ≡ n = omega arith in rw f (rise_from n 0 (omega arith))
 
 -- every row before i passes
 module _ {A : Type 0} (p : A → Bool) (d : A) (n : ℕ) (l : List A) where

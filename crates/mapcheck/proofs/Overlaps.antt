@@ -1,11 +1,12 @@
 -- The tables in memory are compared two by two where their rows lie: an area with the ITTs from one on, and each ITT with those after
 -- it. Assumes nothing.
-use Prim.Native.Nat.{ℕ, ◌+◌, ◌≤◌, ◌<◌}
+use Prim.Native.Nat.{ℕ, zero, suc, ◌+◌, ◌-◌, ◌≤◌}
 use native.Mathlib.Omega.{arith}
-use mathlib.Core.Path.{◌≡◌, refl, sym, ap, ◌∙◌}
-use mathlib.Core.Bool.{Bool, true, false, ◌&&◌, ◌||◌, not}
+use mathlib.Core.Path.{◌≡◌, sym, ◌∙◌}
+use mathlib.Core.Bool.{Bool, true, false, ◌&&◌, not}
 use mathlib.Core.List.{List, map}
 use lib.ListN.{length, get_or, drop, drop_of_length-le}
+use Rattle.std.specs.List.{list_any, list_all, range_with_len}
 use Rattle.areas.specs.declared.Area.{Area}
 use Rattle.areas.specs.Area.{overlaps, strikes, apart}
 use Rattle.areas.proofs.Laws.{strikes_nil, strikes_cons}
@@ -17,59 +18,32 @@ use Rattle.mapping.specs.Mapped.{itt_area, no_device}
 use Rattle.mapping.specs.Commands.{table_areas}
 use Rattle.mapcheck.proofs.Loops.{left_from}
 
-module _ (n : ℕ) (l : List Device) where
+module _ (l : List Device) where
   -- the ITTs of the rows from i on
   abbrev itts : ℕ → List Area
   itts i = map itt_area (drop i l)
 
-  -- an area overlaps an ITT from `from` on where it overlaps one from i on
-  pub record Striking (a : Area) (from i : ℕ) : Type 0 where
-    pub count : n ≡ length l
-    pub end : i ≤ n
-    pub left : strikes (itts from) a ≡ strikes (itts i) a
+  abbrev itt : ℕ → Area
+  itt i = itt_area (get_or l i no_device)
 
-  pub strike_start : (a : Area) (from : ℕ) → n ≡ length l → from ≤ length l → Striking a from from
-  strike_start a from e h = record { count = e; end = omega arith; left = refl }
+  module _ (a : Area) where
+    any_from : (n i : ℕ) → i + n ≡ length l → list_any (λ j. overlaps a (itt j)) (range_with_len i n) ≡ strikes (itts i) a
+    any_from zero i h = rw (drop_of_length-le l {i = i} (omega arith), strikes_nil a)
+    any_from (suc n) i h =
+        rw (left_from no_device l i (omega arith), strikes_cons a (itt i) (itts (i + 1)), any_from n (i + 1) (omega arith))
 
-  module _ (a : Area) (from i : ℕ) (v : Striking a from i) where
-    strike_first : {b : Area} → i < n → b ≡ itt_area (get_or l i no_device) → strikes (itts from) a ≡ (overlaps a b || strikes (itts (i + 1)) a)
-    strike_first h e =
-        v.left ∙ ap (λ (x : List Device). strikes (map itt_area x) a) (left_from no_device l i (omega (arith, v.count)))
-        ∙ strikes_cons a (itt_area (get_or l i no_device)) (itts (i + 1)) ∙ rw e
+    -- an area overlaps an ITT from `from` on where it overlaps one of those at these indices
+    pub any_struck : (n from : ℕ) → n ≡ length l → from ≤ length l → list_any (λ j. overlaps a (itt j)) (range_with_len from (n - from)) ≡ strikes (itts from) a
+    any_struck n from e h = any_from (n - from) from (omega arith)
 
-    pub strike_here : {b : Area} {r : Bool} → i < n → b ≡ itt_area (get_or l i no_device) → r ≡ overlaps a b → r ≡ true → true ≡ strikes (itts from) a
-    strike_here h e q t = sym (strike_first h e ∙ rw (← q, t))
+  apart_from : (n i : ℕ) → i + n ≡ length l → list_all (λ j. not (strikes (itts (j + 1)) (itt j))) (range_with_len i n) ≡ apart (itts i)
+  unfolding apart
+  apart_from zero i h = rw (drop_of_length-le l {i = i} (omega arith))
+  apart_from (suc n) i h = rw (left_from no_device l i (omega arith), apart_from n (i + 1) (omega arith))
 
-    pub strike_turn : {b : Area} {r : Bool} → i < n → b ≡ itt_area (get_or l i no_device) → r ≡ overlaps a b → r ≡ false → Striking a from (i + 1)
-    strike_turn h e q t = record { count = v.count; end = omega arith; left = strike_first h e ∙ rw (← q, t) }
-
-    pub strike_end : n ≤ i → false ≡ strikes (itts from) a
-    strike_end h =
-        sym (v.left ∙ ap (λ (x : List Device). strikes (map itt_area x) a) (drop_of_length-le l {i = i} (omega (arith, v.count))) ∙ strikes_nil a)
-
-  -- no two ITTs overlap where no two from i on do
-  pub record Parting (i : ℕ) : Type 0 where
-    pub count : n ≡ length l
-    pub end : i ≤ n
-    pub left : apart (map itt_area l) ≡ apart (itts i)
-
-  pub part_start : n ≡ length l → Parting 0
-  part_start e = record { count = e; end = omega arith; left = refl }
-
-  module _ (i : ℕ) (v : Parting i) where
-    part_first : {a : Area} → i < n → a ≡ itt_area (get_or l i no_device) → apart (map itt_area l) ≡ (not (strikes (itts (i + 1)) a) && apart (itts (i + 1)))
-    unfolding apart
-    part_first h e = v.left ∙ ap (λ (x : List Device). apart (map itt_area x)) (left_from no_device l i (omega (arith, v.count))) ∙ rw e
-
-    pub part_here : {a : Area} {r : Bool} → i < n → a ≡ itt_area (get_or l i no_device) → r ≡ strikes (itts (i + 1)) a → r ≡ true → false ≡ apart (map itt_area l)
-    part_here h e q t = sym (part_first h e ∙ rw (← q, t))
-
-    pub part_turn : {a : Area} {r : Bool} → i < n → a ≡ itt_area (get_or l i no_device) → r ≡ strikes (itts (i + 1)) a → r ≡ false → Parting (i + 1)
-    part_turn h e q t = record { count = v.count; end = omega arith; left = part_first h e ∙ rw (← q, t) }
-
-    pub part_end : n ≤ i → true ≡ apart (map itt_area l)
-    unfolding apart
-    part_end h = sym (v.left ∙ ap (λ (x : List Device). apart (map itt_area x)) (drop_of_length-le l {i = i} (omega (arith, v.count))))
+  -- no two ITTs overlap where none overlaps one after it
+  pub all_apart : (n : ℕ) → n ≡ length l → list_all (λ j. not (strikes (itts (j + 1)) (itt j))) (range_with_len 0 (n - 0)) ≡ apart (map itt_area l)
+  all_apart n e = apart_from (n - 0) 0 (omega arith)
 
 pub strikes_same : (l : List Area) {a b : Area} {r : Bool} → a ≡ b → r ≡ strikes l a → r ≡ strikes l b
 strikes_same l e q = rw (← e) q

@@ -25,8 +25,11 @@ use Rattle.mapping.specs.declared.Event.{Event}
 use Rattle.mapping.specs.Mapped.{Mapped, rising, device_key, collection_key, event_key, find_key, itt_area, no_device}
 use Rattle.mapping.specs.Commands.{device_entries, table_areas, has_device, device_of, has_collection, is_empty}
 use Rattle.mapping.specs.MapRules.{collection_ok, device_ok, event_ok, mapping_ok, map_rules, small_device}
+use Rattle.maplayout.specs.MapLayout.{decode_map}
+use Rattle.maplayout.proofs.InPlace.{collections_few, devices_few, events_few}
 use Rattle.its.specs.Forms.{is_formed, is_lpi}
 use Rattle.mapkept.proofs.Rising.{find_row}
+use Rattle.mapcheck.specs.Examined.{Examined, Sized}
 
 -- what a call said of a test, where its answer led on or back
 pub passed : {b t : Bool} → b ≡ t → b ≡ true → t ≡ true
@@ -208,3 +211,23 @@ module _ (m : Machine) (k : Mapped) where
 
           pub events_last : {b : Bool} → apart (table_areas m k.devices) ≡ true → b ≡ all (event_ok k) k.events → b ≡ map_rules m k
           events_last a q = rw (tests, r, c, d, a) q
+
+-- what the tests rely on: the tables are placed and every number of rows is within its limit, and the devices that passed their test
+-- are small
+module _ (s : List ℕ) (x : Examined s) {t : Tables} (e : t ≡ tables_of s) where
+  set_read : t.devices.set ≡ (decode s).tables.devices.set
+  set_read = ap (λ (u : Tables). u.devices.set) (tables_read s e)
+
+  pub not_placed : {b : Bool} → (t.devices.set ≡ 1 → ⊥) → b ≡ is_empty (decode_map s) → b ≡ map_rules (decode s) (decode_map s)
+  not_placed n q = unplaced (decode s) (decode_map s) (λ f. n (set_read ∙ f)) q
+
+  pub placed_in : t.devices.set ≡ 1 → Placed (decode s) (decode_map s)
+  placed_in h = record {
+    set = sym set_read ∙ h;
+    collections = collections_few s x.mapping;
+    devices = devices_few s x.mapping;
+    events = events_few s x.mapping;
+  }
+
+pub sized_in : (s : List ℕ) → Examined s → all (device_ok (decode s)) (decode_map s).devices ≡ true → Sized s
+sized_in s x d = record { counted = x.mapping; small = devices_small (decode s) (decode_map s).devices (sound_devices (decode s) x.rules).most d }

@@ -1,24 +1,26 @@
 // Whether a state's bytes keep the rules of the ITS mapping: the test that they pass before any command goes on. Rows are read where
 // they lie, since copies of the tables would take longer than the tests.
+// No struct holds Counted, Sized and Examined: they are facts of the lent bytes, and maplayout's functions ask for them of the bytes.
 #![tactic(auto)]
 
-ghost use Rattle.std.specs.Prelude.{◌≡◌, true, ◌&&◌, map, ◌≤◌, length, drop, ltb};
+ghost use Rattle.std.specs.Prelude.{◌≡◌, ℕ, true, ◌&&◌, List, map, ◌≤◌, ◌<◌, length, get_or, drop, ltb};
 ghost use Rattle.lists.specs.Rows.{all};
 ghost use Rattle.areas.specs.Area.{inside, strikes, apart};
 ghost use Rattle.layout.specs.Layout.{decode};
 ghost use Rattle.rules.specs.Rules.{memory_area};
-ghost use Rattle.mapping.specs.Mapped.{rising, device_key, collection_key, event_key, itt_area};
+ghost use Rattle.mapping.specs.Mapped.{rising, find_key, device_key, collection_key, event_key, itt_area, no_device};
 ghost use Rattle.mapping.specs.Commands.{table_areas, index_of_device, index_of_collection, is_empty};
 ghost use Rattle.mapping.specs.MapRules.{collection_ok, device_ok, event_ok, map_rules};
 ghost use Rattle.maplayout.specs.MapLayout.{decode_map, Counted};
 ghost use Rattle.its.specs.Forms.{is_formed};
 ghost use Rattle.mapcheck.specs.Examined.{Examined, Sized};
+ghost use Rattle.mapcheck.specs.Reads.{Reads};
 
 use areas::Area;
 use guest::Memory;
 use layout::{load_memory, load_tables, vcpu_count};
 use maplayout::{collection_at, collection_count, device_at, device_count, event_at, event_count};
-use mapping::{Collection, Device, Event};
+use mapping::{Collection, Device, Event, Keyed};
 
 // Entries of 8 bytes in a page of a table (§5.4).
 const PAGE_ENTRIES: u64 = 512;
@@ -31,74 +33,28 @@ fn is_empty(s: &[u8]) -> bool
     requires { Counted s.now }
     ensures { result ≡ is_empty (decode_map s.now) }
 {
-    if collection_count(s) != 0 {
-        return false;
-    }
-    if device_count(s) != 0 {
-        return false;
-    }
-    event_count(s) == 0
+    collection_count(s) == 0 && device_count(s) == 0 && event_count(s) == 0
 }
 
-// Whether each collection's ICID is above the one before.
-fn rising_collections(s: &[u8]) -> bool
-    requires { Counted s.now }
-    ensures { result ≡ rising collection_key (decode_map s.now).collections }
+// Whether the key of each of n rows, which `at` reads by their index, is above the one before.
+fn keys_rise<T: Keyed, F: Fn(usize) -> T>(n: usize, at: F) -> bool
+    requires { (i : ℕ) → i < n → F.pre at i }
+    ensures { (l : List T) (d : T) → Reads (F.post at) n l d → result ≡ rising T.key l }
 {
-    let n = collection_count(s);
-    let mut i: usize = 0;
-    while i + 1 < n {
-        let a = collection_at(s, i);
-        let b = collection_at(s, i + 1);
-        if b.icid <= a.icid {
-            return false;
+    (1..n).all(|i| at(i - 1).key() < at(i).key())
+}
+
+// The index of the row of a key among n rows, which `at` reads by their index, or n.
+fn find_row<T: Keyed, F: Fn(usize) -> T>(n: usize, at: F, key: u64) -> usize
+    requires { (i : ℕ) → i < n → F.pre at i }
+    ensures { (l : List T) (d : T) → Reads (F.post at) n l d → result ≡ find_key T.key key l }
+{
+    for i in 0..n {
+        if at(i).key() == key {
+            return i;
         }
-        i += 1;
     }
-    true
-}
-
-// Whether each device's ID is above the one before.
-fn rising_devices(s: &[u8]) -> bool
-    requires { Counted s.now }
-    ensures { result ≡ rising device_key (decode_map s.now).devices }
-{
-    let n = device_count(s);
-    let mut i: usize = 0;
-    while i + 1 < n {
-        let a = device_at(s, i);
-        let b = device_at(s, i + 1);
-        if b.id <= a.id {
-            return false;
-        }
-        i += 1;
-    }
-    true
-}
-
-// What events rise with: their device, and below it their event ID.
-fn event_key(e: Event) -> u64
-    ensures { result ≡ event_key e }
-{
-    (e.device as u64) * 65536 + (e.event as u64)
-}
-
-// Whether each event's key is above the one before.
-fn rising_events(s: &[u8]) -> bool
-    requires { Counted s.now }
-    ensures { result ≡ rising event_key (decode_map s.now).events }
-{
-    let n = event_count(s);
-    let mut i: usize = 0;
-    while i + 1 < n {
-        let a = event_at(s, i);
-        let b = event_at(s, i + 1);
-        if event_key(b) <= event_key(a) {
-            return false;
-        }
-        i += 1;
-    }
-    true
+    n
 }
 
 // Whether the rows of every table rise, so that no ID stands twice.
@@ -106,23 +62,16 @@ fn rows_rise(s: &[u8]) -> bool
     requires { Counted s.now }
     ensures { result ≡ (rising collection_key (decode_map s.now).collections && (rising device_key (decode_map s.now).devices && rising event_key (decode_map s.now).events)) }
 {
-    if !rising_collections(s) {
-        return false;
-    }
-    if !rising_devices(s) {
-        return false;
-    }
-    rising_events(s)
+    keys_rise(collection_count(s), |i| collection_at(s, i))
+        && (keys_rise(device_count(s), |i| device_at(s, i))
+            && keys_rise(event_count(s), |i| event_at(s, i)))
 }
 
 // A collection is for one of the VCPUs.
 fn collection_ok(vcpus: u64, c: Collection) -> bool
     ensures { result ≡ (ltb c.icid 65536 && ltb c.pe vcpus) }
 {
-    if ICIDS <= c.icid {
-        return false;
-    }
-    c.pe < vcpus
+    c.icid < ICIDS && c.pe < vcpus
 }
 
 fn collections_ok(s: &[u8]) -> bool
@@ -130,29 +79,18 @@ fn collections_ok(s: &[u8]) -> bool
     ensures { result ≡ all (collection_ok (decode s.now)) (decode_map s.now).collections }
 {
     let vcpus = vcpu_count(s) as u64;
-    let n = collection_count(s);
-    let mut i: usize = 0;
-    while i < n {
-        if !collection_ok(vcpus, collection_at(s, i)) {
-            return false;
-        }
-        i += 1;
-    }
-    true
+    (0..collection_count(s)).all(|i| collection_ok(vcpus, collection_at(s, i)))
 }
 
 // The bits are tested before the size of the ITT is made of them.
 fn device_ok(memory: Memory, entries: u64, d: Device) -> bool
     ensures { result ≡ (is_formed entries d && inside (memory_area memory) (itt_area d)) }
 {
-    if !its::is_formed(d, entries) {
-        return false;
-    }
     let run = Area {
         start: memory.start,
         size: memory.length,
     };
-    areas::inside(run, its::itt_area(d))
+    its::is_formed(d, entries) && areas::inside(run, its::itt_area(d))
 }
 
 fn devices_ok(s: &[u8]) -> bool
@@ -162,15 +100,15 @@ fn devices_ok(s: &[u8]) -> bool
     let memory = load_memory(s);
     let tables = load_tables(s);
     let entries = PAGE_ENTRIES * tables.devices.pages;
-    let n = device_count(s);
-    let mut i: usize = 0;
-    while i < n {
-        if !device_ok(memory, entries, device_at(s, i)) {
-            return false;
-        }
-        i += 1;
-    }
-    true
+    (0..device_count(s)).all(|i| device_ok(memory, entries, device_at(s, i)))
+}
+
+// The ITT of the device at an index.
+fn itt_at(s: &[u8], i: usize) -> Area
+    requires { Sized s.now × (i < length (decode_map s.now).devices) }
+    ensures { result ≡ itt_area (get_or (decode_map s.now).devices i no_device) }
+{
+    its::itt_area(device_at(s, i))
 }
 
 // Whether an area overlaps the ITT of one of the devices from `from` on.
@@ -178,15 +116,7 @@ fn strikes_itts(s: &[u8], from: usize, a: Area) -> bool
     requires { Sized s.now × (from ≤ length (decode_map s.now).devices) }
     ensures { result ≡ strikes (map itt_area (drop from (decode_map s.now).devices)) a }
 {
-    let n = device_count(s);
-    let mut i = from;
-    while i < n {
-        if areas::overlaps(a, its::itt_area(device_at(s, i))) {
-            return true;
-        }
-        i += 1;
-    }
-    false
+    (from..device_count(s)).any(|i| areas::overlaps(a, itt_at(s, i)))
 }
 
 // Whether no two ITTs overlap: each is compared with those after it.
@@ -194,16 +124,7 @@ fn itts_apart(s: &[u8]) -> bool
     requires { Sized s.now }
     ensures { result ≡ apart (map itt_area (decode_map s.now).devices) }
 {
-    let n = device_count(s);
-    let mut i: usize = 0;
-    while i < n {
-        let a = its::itt_area(device_at(s, i));
-        if strikes_itts(s, i + 1, a) {
-            return false;
-        }
-        i += 1;
-    }
-    true
+    (0..device_count(s)).all(|i| !strikes_itts(s, i + 1, itt_at(s, i)))
 }
 
 // Whether no two of the tables in memory overlap, the devices' ITTs among them. That the device table and the collection table do
@@ -229,16 +150,7 @@ fn find_device(s: &[u8], id: u64) -> usize
     requires { Counted s.now }
     ensures { result ≡ index_of_device id (decode_map s.now) }
 {
-    let n = device_count(s);
-    let mut i: usize = 0;
-    while i < n {
-        let d = device_at(s, i);
-        if d.id == id {
-            return i;
-        }
-        i += 1;
-    }
-    n
+    find_row(device_count(s), |i| device_at(s, i), id)
 }
 
 // The same, by one look where the device at the index `likely` has the ID: rows rise, so no other row has it.
@@ -246,11 +158,8 @@ fn device_index(s: &[u8], likely: usize, id: u64) -> usize
     requires { Counted s.now × (rising device_key (decode_map s.now).devices ≡ true) }
     ensures { result ≡ index_of_device id (decode_map s.now) }
 {
-    if likely < device_count(s) {
-        let d = device_at(s, likely);
-        if d.id == id {
-            return likely;
-        }
+    if likely < device_count(s) && device_at(s, likely).id == id {
+        return likely;
     }
     find_device(s, id)
 }
@@ -260,16 +169,7 @@ fn find_collection(s: &[u8], icid: u64) -> usize
     requires { Counted s.now }
     ensures { result ≡ index_of_collection icid (decode_map s.now) }
 {
-    let n = collection_count(s);
-    let mut i: usize = 0;
-    while i < n {
-        let c = collection_at(s, i);
-        if c.icid == icid {
-            return i;
-        }
-        i += 1;
-    }
-    n
+    find_row(collection_count(s), |i| collection_at(s, i), icid)
 }
 
 // Whether an event's device, sought to the index `at`, and its collection stand, and its numbers are in their ranges.
@@ -297,14 +197,12 @@ fn events_ok(s: &[u8]) -> bool
 {
     let n = event_count(s);
     let mut at: usize = 0;
-    let mut i: usize = 0;
-    while i < n {
+    for i in 0..n {
         let e = event_at(s, i);
         at = device_index(s, at, e.device as u64);
         if !event_ok(s, at, e) {
             return false;
         }
-        i += 1;
     }
     true
 }

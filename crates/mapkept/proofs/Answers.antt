@@ -5,7 +5,7 @@ use mathlib.Core.Bool.{true, ◌&&◌}
 use lib.ListN.{length}
 use lib.Dec.{ltb, leb, eqb}
 use Rattle.areas.specs.Area.{inside, strikes, overlaps}
-use Rattle.guest.specs.declared.Reading.{Reading}
+use Rattle.guest.specs.Machine.{Reading}
 use Rattle.guest.specs.declared.Table.{Table}
 use Rattle.guest.specs.Machine.{Machine}
 use Rattle.rules.specs.Rules.{table_area, memory_area}

@@ -9,7 +9,7 @@ use borrow.Author.Tests.{ltb-true, leb-true, eqb-true}
 use Rattle.lists.proofs.All.{all_at}
 use Rattle.areas.specs.Area.{inside, end_of}
 use Rattle.areas.proofs.Tests.{and_left, and_right}
-use Rattle.guest.specs.declared.Reading.{Reading}
+use Rattle.guest.specs.Machine.{Reading}
 use Rattle.guest.specs.Machine.{Machine}
 use Rattle.rules.specs.Rules.{memory_area, rules}
 use Rattle.rules.proofs.Facts.{sound_memory, sound_limit, sound_vcpus, sound_devices}

@@ -16,7 +16,8 @@ use Rattle.mapping.specs.Mapped.{Mapped, empty, inserted_at}
 use Rattle.mapping.specs.Commands.{with_devices, with_collections, with_events}
 use Rattle.maplayout.specs.MapLayout.{device_bytes, collection_bytes, event_bytes, count_bytes, decode_map, stored_map}
 use Rattle.maplayout.specs.Added.{device_added, collection_added, event_added}
-use Rattle.maplayout.proofs.Sizes.{device_sized, collection_sized, event_sized, counts_sized}
+use Rattle.maplayout.specs.Sizes.{device_sized, collection_sized, event_sized}
+use Rattle.maplayout.proofs.Sizes.{counts_sized}
 use Rattle.maplayout.proofs.Stored.{stored_of}
 use Rattle.maplayout.proofs.Round.{MapRoom}
 use Rattle.maplayout.proofs.Puts.{put_at-swap, put_at-end, put_at-inside}

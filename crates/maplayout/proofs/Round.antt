@@ -23,7 +23,8 @@ use Rattle.mapping.specs.declared.Event.{Event}
 use Rattle.mapping.specs.Mapped.{Mapped}
 use Rattle.mapping.specs.MapWords.{MapWords, DeviceWords, CollectionWords, EventWords}
 use Rattle.maplayout.specs.MapLayout.{device_of, device_bytes, device_words, collection_of, collection_bytes, collection_words, event_of, event_bytes, event_words, count_words, count_bytes, decode_map, stored_map, map_counts_ok}
-use Rattle.maplayout.proofs.Sizes.{device_sized, collection_sized, event_sized, counts_sized}
+use Rattle.maplayout.specs.Sizes.{device_sized, collection_sized, event_sized}
+use Rattle.maplayout.proofs.Sizes.{counts_sized}
 use Rattle.words.proofs.Alike.{take-put_at-before, le_at-alike, rows_alike, drop_alike, le_at-alike-past}
 
 -- number k of a run of numbers that nothing follows

@@ -12,7 +12,7 @@ use Rattle.layout.specs.Layout.{size}
 use Rattle.mapping.specs.declared.Collection.{Collection}
 use Rattle.mapping.specs.Mapped.{no_collection}
 use Rattle.maplayout.specs.MapLayout.{collection_of, collection_bytes, decode_map, Counted}
-use Rattle.maplayout.proofs.Sizes.{collection_sized}
+use Rattle.maplayout.specs.Sizes.{collection_sized}
 use Rattle.maplayout.proofs.InPlace.{collection_read}
 
 module _ (s₀ : List ℕ) (i n : ℕ) (c : Collection) where

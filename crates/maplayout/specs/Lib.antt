@@ -1,2 +1,3 @@
 pub mod MapLayout
 pub mod Added
+pub mod Sizes

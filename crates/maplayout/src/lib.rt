@@ -5,161 +5,112 @@ ghost use Rattle.std.specs.Prelude.{◌≡◌, true, [], ◌∷◌, ◌+◌, ◌
 ghost use Rattle.words.specs.Words.{rows_of, bytes_all, bytes_of, put_at};
 ghost use Rattle.layout.specs.Layout.{size};
 ghost use Rattle.mapping.specs.Mapped.{rows, Within, empty, no_device, no_collection, no_event};
+ghost use Rattle.maplayout.specs.Sizes.{device_sized, collection_sized, event_sized};
 ghost use Rattle.maplayout.specs.MapLayout.{device_of, device_bytes, collection_of, collection_bytes, event_of, event_bytes, decode_map, stored_map, map_counts_ok, Counted};
 ghost use Rattle.maplayout.specs.Added.{device_added, collection_added, event_added};
 
+use layout::{Layout, load_rows, put_row, row_at, store_rows, store_words};
 use mapping::{Collection, Device, Event, Mapping};
 use words::{get16, get64, put16, put64};
 
-fn load_device(s: &[u8], at: usize) -> Device
-    requires { at + 24 ≤ length s.now }
-    ensures { result ≡ device_of (take 24 (drop at s.now)) }
-{
-    Device {
-        id: get64(s, at),
-        itt: get64(s, at + 8),
-        bits: get64(s, at + 16),
+struct DeviceRows;
+
+impl Layout for DeviceRows {
+    type Row = Device;
+
+    ghost START = { 2376 };
+
+    ghost SIZE = { 24 };
+
+    ghost of = { device_of };
+
+    ghost bytes = { device_bytes };
+
+    const START: usize = 2376;
+
+    const SIZE: usize = 24;
+
+    fn load(s: &[u8], at: usize) -> Device {
+        Device {
+            id: get64(s, at),
+            itt: get64(s, at + 8),
+            bits: get64(s, at + 16),
+        }
     }
-}
 
-fn load_collection(s: &[u8], at: usize) -> Collection
-    requires { at + 4 ≤ length s.now }
-    ensures { result ≡ collection_of (take 4 (drop at s.now)) }
-{
-    Collection {
-        icid: get16(s, at),
-        pe: get16(s, at + 2),
+    fn store(s: &mut [u8], at: usize, row: Device) {
+        store_words(s, at, &[row.id, row.itt, row.bits]);
     }
+
+    ghost sized = { device_sized };
 }
 
-fn load_event(s: &[u8], at: usize) -> Event
-    requires { at + 8 ≤ length s.now }
-    ensures { result ≡ event_of (take 8 (drop at s.now)) }
-{
-    Event {
-        device: get16(s, at) as u16,
-        event: get16(s, at + 2) as u16,
-        lpi: get16(s, at + 4) as u16,
-        icid: get16(s, at + 6) as u16,
+struct CollectionRows;
+
+impl Layout for CollectionRows {
+    type Row = Collection;
+
+    ghost START = { 3144 };
+
+    ghost SIZE = { 4 };
+
+    ghost of = { collection_of };
+
+    ghost bytes = { collection_bytes };
+
+    const START: usize = 3144;
+
+    const SIZE: usize = 4;
+
+    fn load(s: &[u8], at: usize) -> Collection {
+        Collection {
+            icid: get16(s, at),
+            pe: get16(s, at + 2),
+        }
     }
-}
 
-fn load_devices(s: &[u8], n: usize) -> [Device; 32]
-    requires { (length s.now ≡ size) × (n ≤ 32) }
-    ensures { take n result ≡ rows_of device_of 24 n (drop 2376 s.now) }
-{
-    let mut a = [Device {
-        id: 0,
-        itt: 0,
-        bits: 0,
-    }; 32];
-    let mut i: usize = 0;
-    while i < n {
-        a[i] = load_device(s, 2376 + i * 24);
-        i += 1;
+    fn store(s: &mut [u8], at: usize, row: Collection) {
+        put16(s, at, row.icid);
+        put16(s, at + 2, row.pe);
     }
-    a
+
+    ghost sized = { collection_sized };
 }
 
-fn load_collections(s: &[u8], n: usize) -> [Collection; 16]
-    requires { (length s.now ≡ size) × (n ≤ 16) }
-    ensures { take n result ≡ rows_of collection_of 4 n (drop 3144 s.now) }
-{
-    let mut a = [Collection { icid: 0, pe: 0 }; 16];
-    let mut i: usize = 0;
-    while i < n {
-        a[i] = load_collection(s, 3144 + i * 4);
-        i += 1;
+struct EventRows;
+
+impl Layout for EventRows {
+    type Row = Event;
+
+    ghost START = { 3208 };
+
+    ghost SIZE = { 8 };
+
+    ghost of = { event_of };
+
+    ghost bytes = { event_bytes };
+
+    const START: usize = 3208;
+
+    const SIZE: usize = 8;
+
+    fn load(s: &[u8], at: usize) -> Event {
+        Event {
+            device: get16(s, at) as u16,
+            event: get16(s, at + 2) as u16,
+            lpi: get16(s, at + 4) as u16,
+            icid: get16(s, at + 6) as u16,
+        }
     }
-    a
-}
 
-fn load_events(s: &[u8], n: usize) -> [Event; 1024]
-    requires { (length s.now ≡ size) × (n ≤ 1024) }
-    ensures { take n result ≡ rows_of event_of 8 n (drop 3208 s.now) }
-{
-    let mut a = [Event {
-        device: 0,
-        event: 0,
-        lpi: 0,
-        icid: 0,
-    }; 1024];
-    let mut i: usize = 0;
-    while i < n {
-        a[i] = load_event(s, 3208 + i * 8);
-        i += 1;
+    fn store(s: &mut [u8], at: usize, row: Event) {
+        put16(s, at, row.device as u64);
+        put16(s, at + 2, row.event as u64);
+        put16(s, at + 4, row.lpi as u64);
+        put16(s, at + 6, row.icid as u64);
     }
-    a
-}
 
-fn store_three(s: &mut [u8], at: usize, a: u64, b: u64, c: u64)
-    requires { at + 24 ≤ length s.old }
-    ensures { s.new ≡ put_at s.old at (bytes_all (bytes_of 8) (a ∷ b ∷ c ∷ [])) }
-{
-    put64(s, at, a);
-    put64(s, at + 8, b);
-    put64(s, at + 16, c);
-}
-
-fn store_device(s: &mut [u8], at: usize, d: Device)
-    requires { at + 24 ≤ length s.old }
-    ensures { s.new ≡ put_at s.old at (device_bytes d) }
-{
-    store_three(s, at, d.id, d.itt, d.bits);
-}
-
-fn store_collection(s: &mut [u8], at: usize, c: Collection)
-    requires { at + 4 ≤ length s.old }
-    ensures { s.new ≡ put_at s.old at (collection_bytes c) }
-{
-    put16(s, at, c.icid);
-    put16(s, at + 2, c.pe);
-}
-
-fn store_event(s: &mut [u8], at: usize, e: Event)
-    requires { at + 8 ≤ length s.old }
-    ensures { s.new ≡ put_at s.old at (event_bytes e) }
-{
-    put16(s, at, e.device as u64);
-    put16(s, at + 2, e.event as u64);
-    put16(s, at + 4, e.lpi as u64);
-    put16(s, at + 6, e.icid as u64);
-}
-
-fn store_devices(s: &mut [u8], rows: [Device; 32], n: usize)
-    requires { (length s.old ≡ size) × (n ≤ 32) }
-    ensures { s.new ≡ put_at s.old 2376 (bytes_all device_bytes (take n rows)) }
-{
-    let mut i: usize = 0;
-    while i < n {
-        let row = rows[i];
-        store_device(s, 2376 + i * 24, row);
-        i += 1;
-    }
-}
-
-fn store_collections(s: &mut [u8], rows: [Collection; 16], n: usize)
-    requires { (length s.old ≡ size) × (n ≤ 16) }
-    ensures { s.new ≡ put_at s.old 3144 (bytes_all collection_bytes (take n rows)) }
-{
-    let mut i: usize = 0;
-    while i < n {
-        let row = rows[i];
-        store_collection(s, 3144 + i * 4, row);
-        i += 1;
-    }
-}
-
-fn store_events(s: &mut [u8], rows: [Event; 1024], n: usize)
-    requires { (length s.old ≡ size) × (n ≤ 1024) }
-    ensures { s.new ≡ put_at s.old 3208 (bytes_all event_bytes (take n rows)) }
-{
-    let mut i: usize = 0;
-    while i < n {
-        let row = rows[i];
-        store_event(s, 3208 + i * 8, row);
-        i += 1;
-    }
+    ghost sized = { event_sized };
 }
 
 // Whether every table's number of rows is within the room for it: tested before anything is loaded.
@@ -167,13 +118,7 @@ pub fn map_counts_ok(s: &[u8]) -> bool
     requires { length s.now ≡ size }
     ensures { result ≡ map_counts_ok s.now }
 {
-    if 32 < get64(s, 2352) {
-        return false;
-    }
-    if 16 < get64(s, 2360) {
-        return false;
-    }
-    get64(s, 2368) <= 1024
+    get64(s, 2352) <= 32 && get64(s, 2360) <= 16 && get64(s, 2368) <= 1024
 }
 
 // The numbers of rows and the rows one by one, read where they lie: a test of the bytes, or a save, need not load the tables.
@@ -202,21 +147,21 @@ pub fn device_at(s: &[u8], i: usize) -> Device
     requires { Counted s.now × (i < length (decode_map s.now).devices) }
     ensures { result ≡ get_or (decode_map s.now).devices i no_device }
 {
-    load_device(s, 2376 + i * 24)
+    row_at::<DeviceRows>(s, i)
 }
 
 pub fn collection_at(s: &[u8], i: usize) -> Collection
     requires { Counted s.now × (i < length (decode_map s.now).collections) }
     ensures { result ≡ get_or (decode_map s.now).collections i no_collection }
 {
-    load_collection(s, 3144 + i * 4)
+    row_at::<CollectionRows>(s, i)
 }
 
 pub fn event_at(s: &[u8], i: usize) -> Event
     requires { Counted s.now × (i < length (decode_map s.now).events) }
     ensures { result ≡ get_or (decode_map s.now).events i no_event }
 {
-    load_event(s, 3208 + i * 8)
+    row_at::<EventRows>(s, i)
 }
 
 // The mapping that the bytes hold.
@@ -224,16 +169,31 @@ pub fn load_mapping(s: &[u8]) -> Mapping
     requires { (length s.now ≡ size) × (map_counts_ok s.now ≡ true) }
     ensures { (rows result ≡ decode_map s.now) × Within result }
 {
-    let devices = get64(s, 2352) as usize;
-    let collections = get64(s, 2360) as usize;
-    let events = get64(s, 2368) as usize;
+    let ndevices = get64(s, 2352) as usize;
+    let ncollections = get64(s, 2360) as usize;
+    let nevents = get64(s, 2368) as usize;
+    let device = Device {
+        id: 0,
+        itt: 0,
+        bits: 0,
+    };
+    let event = Event {
+        device: 0,
+        event: 0,
+        lpi: 0,
+        icid: 0,
+    };
     Mapping {
-        devices: load_devices(s, devices),
-        ndevices: devices,
-        collections: load_collections(s, collections),
-        ncollections: collections,
-        events: load_events(s, events),
-        nevents: events,
+        devices: load_rows::<DeviceRows, 32>(s, ndevices, device),
+        ndevices,
+        collections: load_rows::<CollectionRows, 16>(
+            s,
+            ncollections,
+            Collection { icid: 0, pe: 0 },
+        ),
+        ncollections,
+        events: load_rows::<EventRows, 1024>(s, nevents, event),
+        nevents,
     }
 }
 
@@ -242,18 +202,13 @@ pub fn store_mapping(s: &mut [u8], k: Mapping)
     requires { (length s.old ≡ size) × Within k }
     ensures { s.new ≡ stored_map (rows k) s.old }
 {
-    let devices = k.devices;
-    let collections = k.collections;
-    let events = k.events;
-    store_events(s, events, k.nevents);
-    store_collections(s, collections, k.ncollections);
-    store_devices(s, devices, k.ndevices);
-    store_three(
+    store_rows::<EventRows>(s, &k.events[..k.nevents]);
+    store_rows::<CollectionRows>(s, &k.collections[..k.ncollections]);
+    store_rows::<DeviceRows>(s, &k.devices[..k.ndevices]);
+    store_words(
         s,
         2352,
-        k.ndevices as u64,
-        k.ncollections as u64,
-        k.nevents as u64,
+        &[k.ndevices as u64, k.ncollections as u64, k.nevents as u64],
     );
 }
 
@@ -262,7 +217,7 @@ pub fn store_empty(s: &mut [u8])
     requires { length s.old ≡ size }
     ensures { s.new ≡ stored_map empty s.old }
 {
-    store_three(s, 2352, 0, 0, 0);
+    store_words(s, 2352, &[0, 0, 0]);
 }
 
 pub fn add_device(s: &mut [u8], d: Device)
@@ -270,24 +225,23 @@ pub fn add_device(s: &mut [u8], d: Device)
     ensures { s.new ≡ device_added d s.old }
 {
     let n = device_count(s);
-    store_device(s, 2376 + n * 24, d);
+    put_row::<DeviceRows>(s, n, d);
     put64(s, 2352, (n + 1) as u64);
 }
 
-// The collections from the index on move up by one: each makes room for the one before it.
+// The collections from the index on move up by one: each makes room for the one before it, row by row, as the definition `collection_added` has
+// rows and no bytes.
 fn shift_collections(s: &mut [u8], i: usize, n: usize, c: Collection)
     requires { Counted s.old × (i ≤ n) × (n ≡ length (decode_map s.old).collections) × (n < 16) }
     ensures { s.new ≡ put_at s.old (3144 + i * 4) (bytes_all collection_bytes (c ∷ drop i (decode_map s.old).collections)) }
 {
     let mut carry = c;
-    let mut j = i;
-    while j < n {
-        let row = load_collection(s, 3144 + j * 4);
-        store_collection(s, 3144 + j * 4, carry);
+    for j in i..n {
+        let row = row_at::<CollectionRows>(s, j);
+        put_row::<CollectionRows>(s, j, carry);
         carry = row;
-        j += 1;
     }
-    store_collection(s, 3144 + n * 4, carry);
+    put_row::<CollectionRows>(s, n, carry);
 }
 
 pub fn insert_collection(s: &mut [u8], i: usize, c: Collection)
@@ -304,6 +258,6 @@ pub fn add_event(s: &mut [u8], e: Event)
     ensures { s.new ≡ event_added e s.old }
 {
     let n = event_count(s);
-    store_event(s, 3208 + n * 8, e);
+    put_row::<EventRows>(s, n, e);
     put64(s, 2368, (n + 1) as u64);
 }

@@ -11,7 +11,7 @@ use borrow.Author.Tests.{eq-eqb, eqb-true, ne_eqb, not-true}
 use Rattle.lists.proofs.Member.{In, all_in, all_of}
 use Rattle.areas.proofs.Tests.{clash, refuted, join, split, not_holds}
 use Rattle.areas.proofs.Has.{none_has}
-use Rattle.guest.specs.declared.Reading.{Reading}
+use Rattle.guest.specs.Machine.{Reading}
 use Rattle.guest.specs.Machine.{Machine}
 use Rattle.mapping.specs.declared.Device.{Device}
 use Rattle.mapping.specs.declared.Collection.{Collection}

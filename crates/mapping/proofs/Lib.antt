@@ -1,5 +1,4 @@
 pub mod Table
-pub mod Replace
 pub mod Counts
 pub mod Edits
 pub mod Rise

@@ -12,7 +12,9 @@ use lib.Seq.{
   take-take,
   take-add,
   take_at,
+  paste,
   take-paste,
+  take-set-lt,
   drop_at,
   drop-cons,
   set_at,
@@ -22,10 +24,8 @@ use lib.Seq.{
   length-take-le,
 }
 use borrow.Author.Count.{below_more}
-use Rattle.lists.specs.Rows.{find_ix, insert_row, remove_row}
+use Rattle.lists.specs.Rows.{find_ix}
 use Rattle.lists.proofs.Find.{row_here, row_none}
-use Rattle.lists.proofs.Edit.{Inserting, insert_start, insert_turn, insert_end, Removing, remove_start, remove_turn, remove_end}
-use Rattle.lists.proofs.All.{rows-insert_row}
 use Rattle.mapping.specs.Mapped.{inserted_at, removed_at, kept}
 use Rattle.mapping.proofs.Edits.{kept_append}
 
@@ -36,66 +36,35 @@ module _ {A : Type 0} where
       ap (drop i) (ap (λ (k : ℕ). take k l) (sym e) ∙ take-add i (n - i) l)
       ∙ drop_at (take i l) (take (n - i) (drop i l)) i (length-take-le i l (omega arith))
 
-  -- one row more
-  rows_inserted : (n i : ℕ) (x : A) (l : List A) → i ≤ n → n < length l → take (n + 1) (insert_row n i x l) ≡ inserted_at i x (take n l)
+  -- another row
+  pub rows_set : (n : ℕ) (l : List A) (i : ℕ) (x : A) → i < n → take n (set l i x) ≡ set (take n l) i x
+  rows_set = take-set-lt
+
+  -- the rows from i on copied one up, and a row written at i
+  pub rows_moved_up : (n i : ℕ) (x : A) (l : List A) {b : List A} → b ≡ paste l (i + 1) (drop i l) (n - i) → i ≤ n → n < length l
+      → take (n + 1) (set b i x) ≡ inserted_at i x (take n l)
   unfolding inserted_at
-  rows_inserted n i x l h g = rows-insert_row n i x l h g ∙ rw (take-take i n l h, drop_take n i l h (omega arith))
+  rows_moved_up n i x l {b} e h g =
+      let f : i + 1 + (n - i) ≡ n + 1 = omega arith in
+      let m = length-drop i l in
+      let t : take (n + 1) b ≡ take (i + 1) l ++ take (n - i) (drop i l) =
+      rw (e, ← f) (take-paste l (i + 1) (drop i l) (n - i) (omega arith) (omega arith)) in
+      take-set-lt (n + 1) b i x (omega arith)
+      ∙ rw (t, add-one, take-suc l i x (omega arith), append_snoc (take i l) (get_or l i x) (take (n - i) (drop i l)))
+      (set_at (take i l) (get_or l i x) (take (n - i) (drop i l)) x i (length-take-le i l (omega arith))
+      ∙ rw (take-take i n l h, drop_take n i l h (omega arith)))
 
-  -- one row less
-  rows_removed : (n i : ℕ) (l : List A) → i < n → n ≤ length l → take (n - 1) (remove_row n i l) ≡ removed_at i (take n l)
-  unfolding remove_row removed_at
-  rows_removed n i l h g =
-      let e : i + (n - i - 1) ≡ n - 1 = omega arith in
-      let f : n - i - 1 ≡ n - suc i = omega arith in
+  -- the rows past i copied one down
+  pub rows_moved_down : (n i : ℕ) (l : List A) {b : List A} → b ≡ paste l i (drop (i + 1) l) (n - (i + 1)) → i < n → n ≤ length l
+      → take (n - 1) b ≡ removed_at i (take n l)
+  unfolding removed_at
+  rows_moved_down n i l {b} e h g =
+      let e' : b ≡ paste l i (drop (suc i) l) (n - suc i) = rw add-one at e in
+      let f : i + (n - suc i) ≡ n - 1 = omega arith in
       let m = length-drop (suc i) l in
-      ap (λ (k : ℕ). take k (remove_row n i l)) (sym e)
-      ∙ take-paste l i (drop (suc i) l) (n - i - 1) (omega arith) (omega arith)
-      ∙ rw (f, take-take i n l (omega arith), drop_take n (suc i) l h g)
-
-  -- a loop that puts a row in at i, among n: the rows before j are in place, and carry goes to j
-  pub record Insertion (l : List A) (n i : ℕ) (x d : A) (b : List A) (carry : A) (j : ℕ) : Type 0 where
-    pub room : n < length l
-    pub place : i ≤ n
-    pub end : j ≤ n + 1
-    pub state : Inserting l i x d b carry j
-
-  module _ (l : List A) (n i : ℕ) (x d : A) where
-    pub insertion_start : n < length l → i ≤ n → Insertion l n i x d l x i
-    insertion_start r h = record { room = r; place = h; end = omega arith; state = insert_start l i x d }
-
-    pub insertion_turn : (b : List A) (carry : A) (j : ℕ) → j ≤ n → Insertion l n i x d b carry j → Insertion l n i x d (set b j carry) (get_or b j d) (j + 1)
-    insertion_turn b carry j h v =
-        let r = v.room in
-        record { room = r; place = v.place; end = omega arith; state = insert_turn l i x d b carry j (omega arith) v.state }
-
-    pub insertion_end : (b : List A) (carry : A) (j : ℕ) → n < j → Insertion l n i x d b carry j → take (n + 1) b ≡ inserted_at i x (take n l)
-    insertion_end b carry j h v =
-        let f = v.end in
-        ap (take (n + 1)) (insert_end l i x d n b carry j (omega arith) v.place v.state)
-        ∙ rows_inserted n i x l v.place v.room
-
-  -- a loop that takes the row at i out, where last is the index of the last row: the rows before j are in place
-  pub record Removal (l : List A) (last i : ℕ) (b : List A) (j : ℕ) : Type 0 where
-    pub room : last < length l
-    pub place : i ≤ last
-    pub end : j ≤ last
-    pub state : Removing l i b j
-
-  module _ (l : List A) (last i : ℕ) where
-    pub removal_start : last < length l → i ≤ last → Removal l last i l i
-    removal_start r h = record { room = r; place = h; end = h; state = remove_start l i }
-
-    pub removal_turn : (d : A) (b : List A) (j : ℕ) → j < last → Removal l last i b j → Removal l last i (set b j (get_or b (j + 1) d)) (j + 1)
-    removal_turn d b j h v =
-        let r = v.room in
-        record { room = r; place = v.place; end = omega arith; state = remove_turn l i d b j (omega arith) v.state }
-
-    pub removal_end : (n : ℕ) (b : List A) (j : ℕ) → last ≡ n - 1 → 1 ≤ n → last ≤ j → Removal l last i b j → take last b ≡ removed_at i (take n l)
-    removal_end n b j e p h v =
-        let f = v.end in
-        let r = v.room in
-        let g = v.place in
-        rw e (ap (take (n - 1)) (remove_end l i n b j (omega arith) v.state) ∙ rows_removed n i l (omega arith) (omega arith))
+      rw (e', ← f)
+      (take-paste l i (drop (suc i) l) (n - suc i) (omega arith) (omega arith)
+      ∙ rw (take-take i n l (omega arith), drop_take n (suc i) l h g))
 
 -- a search among the first n: no row before i passes
 module _ {A : Type 0} (p : A → Bool) (d : A) (n : ℕ) (l : List A) where

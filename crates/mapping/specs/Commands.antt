@@ -3,7 +3,7 @@ use Rattle.std.specs.Prelude.{ℕ, ◌+◌, ◌*◌, ◌%◌, ◌^◌, Bool, ◌
 use Rattle.lists.specs.Rows.{choose, find_ix}
 use Rattle.areas.specs.declared.Area.{Area}
 use Rattle.areas.specs.Area.{inside, strikes, overlaps}
-use Rattle.guest.specs.declared.Reading.{Reading}
+use Rattle.guest.specs.Machine.{Reading}
 use Rattle.guest.specs.declared.Table.{Table}
 use Rattle.guest.specs.Machine.{Machine}
 use Rattle.rules.specs.Rules.{table_area, memory_area}

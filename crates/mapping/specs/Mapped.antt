@@ -1,13 +1,14 @@
 -- The mapping as a reader has it (§5.1). Each of its three sets is the list of its rows in rising order without repeats, so that two
 -- mappings are equal as sets if and only if they are equal as lists.
-use Rattle.std.specs.Prelude.{ℕ, suc, ◌+◌, ◌*◌, ◌^◌, ◌≤◌, ◌≡◌, Bool, true, ◌&&◌, List, [], ◌∷◌, ◌++◌, take, drop, eqb, leb, ltb}
+use Rattle.std.specs.Prelude.{Result, Ok, Err, IfOk, ℕ, suc, ◌+◌, ◌*◌, ◌^◌, ◌≤◌, ◌≡◌, Bool, true, ◌&&◌, List, [], ◌∷◌, ◌++◌, take, drop, eqb, leb, ltb}
 use Rattle.lists.specs.Rows.{find_ix}
 use Rattle.areas.specs.declared.Area.{Area}
 use Rattle.mapping.specs.declared.Device.{Device}
 use Rattle.mapping.specs.declared.Collection.{Collection}
 use Rattle.mapping.specs.declared.Event.{Event}
 use Rattle.mapping.specs.declared.Mapping.{Mapping}
-use Rattle.mapping.specs.declared.Remapped.{Remapped}
+use Rattle.answers.specs.declared.Errno.{Errno}
+use Rattle.answers.specs.Number.{number}
 
 -- §5.1: collections (ICID, pe), devices (ID, ITT, bits), events (device, event, LPI, ICID)
 pub record Mapped : Type 0 where
@@ -50,11 +51,15 @@ refuse k e = record { errno = e; next = k }
 abbrev pub accept : Mapped → MapResult
 accept k = record { errno = 0; next = k }
 
+-- Inner: what the code hands back for a command on a mapping: the next mapping, or an errno and the mapping as it was
+abbrev pub remapped : Mapped → Result Mapping Errno → MapResult
+remapped k (Ok m) = accept (rows m)
+remapped k (Err e) = refuse k (number e)
+
 -- Inner: the promise of the code of a mapping command
-pub record Maps (o : Remapped) (r : MapResult) : Type 0 where
-  pub errno : o.errno ≡ r.errno
-  pub is : rows o.mapping ≡ r.next
-  pub within : Within o.mapping
+pub record Maps (k : Mapped) (o : Result Mapping Errno) (r : MapResult) : Type 0 where
+  pub is : remapped k o ≡ r
+  pub within : IfOk o Within
 
 -- §5.1: keys, what a row is named by and rises with. Events rise by device, and those of one device by event ID: both are below 65,536
 abbrev pub device_key : Device → ℕ

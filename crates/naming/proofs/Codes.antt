@@ -1,8 +1,10 @@
--- The fault of a code is the one that it was made of. Assumes nothing.
+-- The fault of a code is the one that it was made of, and what a part of a code stands for. Assumes nothing.
 use Prim.Native.Nat.{ℕ, ◌+◌, ◌*◌, ◌^◌, ◌≤◌, ◌<◌}
 use native.Mathlib.Omega.{arith}
 use mathlib.Core.Path.{◌≡◌, refl, ap, ◌∙◌}
+use borrow.Author.Tests.{ne_eqb}
 use Rattle.fields.specs.Field.{get_field}
+use Rattle.fields.proofs.Laws.{get_lt}
 use Rattle.tables.specs.Fault.{
   Place,
   at_collection,
@@ -29,7 +31,7 @@ use Rattle.tables.specs.Fault.{
 use Rattle.codes.proofs.Numbers.{numbered}
 use Rattle.naming.specs.Naming.{kind_of, place_in, fault_of}
 
-kind_number_lem : (k : Kind) → kind_of (kind_number k) ≡ k
+pub kind_number_lem : (k : Kind) → kind_of (kind_number k) ≡ k
 unfolding kind_of
 kind_number_lem fault_pe = refl
 kind_number_lem fault_repeat = refl
@@ -42,6 +44,27 @@ kind_number_lem fault_overlap = refl
 kind_number_lem fault_lpi = refl
 kind_number_lem fault_icid = refl
 kind_number_lem fault1025th = refl
+
+-- a number that no kind has
+pub kind_other : (n : ℕ) → ((k : Kind) → n ≡ kind_number k → ⊥) → fault1025th ≡ kind_of n
+unfolding kind_of
+kind_other n h =
+    rw (
+      ne_eqb n 1 (h fault_pe),
+      ne_eqb n 2 (h fault_repeat),
+      ne_eqb n 3 (h fault17th),
+      ne_eqb n 4 (h fault_next),
+      ne_eqb n 5 (h fault_size),
+      ne_eqb n 6 (h fault33rd),
+      ne_eqb n 7 (h fault_outside),
+      ne_eqb n 8 (h fault_overlap),
+      ne_eqb n 9 (h fault_lpi),
+      ne_eqb n 10 (h fault_icid),
+    )
+
+-- a field of 16 bits, wherever it stands
+pub fits16 : (n c pos : ℕ) → n ≡ get_field c pos 16 → n < 2 ^ 16
+fits16 n c pos e = rw e (get_lt c pos 16)
 
 -- a number that is put together as a code is
 abbrev packed : ℕ → ℕ → ℕ → ℕ → ℕ

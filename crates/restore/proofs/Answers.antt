@@ -1,73 +1,82 @@
 -- What the parts of a restore hand back, and how a fault ends what comes after it. Assumes nothing.
-use Prim.Native.Nat.{ℕ, zero, suc, ◌+◌, ◌*◌, ◌^◌, ◌≤◌, ◌<◌}
+use Prim.Native.Nat.{ℕ}
 use native.Mathlib.Omega.{arith}
-use mathlib.Core.Path.{◌≡◌, refl, sym, ◌∙◌}
+use mathlib.Core.Path.{◌≡◌, refl, sym, ap, ◌∙◌}
 use mathlib.Core.List.{List}
-use mathlib.Core.Logic.{◌⊎◌, inl, inr, ⊎_elim}
-use borrow.Author.Tests.{eq-eqb, ne_eqb}
+use Rattle.std.specs.Prelude.{Result, Ok, Err, ⊤}
+use Rattle.std.specs.Result.{MatchResult, IsErrAnd}
+use Rattle.std.proofs.lemmas.Result.{err_from_is_err_and}
 use Rattle.guest.specs.Machine.{Machine}
 use Rattle.mapping.specs.Mapped.{Mapped}
-use Rattle.tables.specs.Fault.{Place, Kind, Fault, at, kind_number, place_number, Indexed}
+use Rattle.layout.specs.Layout.{decode}
+use Rattle.tables.specs.Fault.{Place, Fault, at, Indexed}
 use Rattle.tables.specs.Restored.{Out, fault, found, and_then}
-use Rattle.codes.specs.Codes.{code_in}
-use Rattle.codes.proofs.Numbers.{numbered}
-use Rattle.restore.specs.Begun.{Over, Begun, ByCode, ByKind, Gives, Steps}
+use Rattle.codes.specs.Codes.{kind_is, place_is}
+use Rattle.codes.specs.declared.Kind as kinds
+use Rattle.codes.specs.declared.Place as places
+use Rattle.codes.specs.declared.Fault as faults
+use Rattle.restore.specs.Begun.{Over, ByFault, ByKind, Gives, Steps}
 
-pub zero_or : (n : ℕ) → (n ≡ 0) ⊎ (n ≡ 0 → ⊥)
-zero_or zero = inl refl
-zero_or (suc n) = inr (λ z. omega arith)
+-- no answer is both
+abbrev tag : {E : Type 0} → Result ⊤ E → ℕ
+tag (Ok u) = 0
+tag (Err e) = 1
 
-module _ {Says : Fault → ℕ → Type 0} {s₀ : List ℕ} {out : Out} {s : List ℕ} where
-  pub gives_fault : (f : Fault) (r : ℕ) → 0 < r → Says f r → fault f ≡ out → Gives Says s₀ out r s
-  gives_fault f r h q p = record { stops = λ n. (f, sym p, q); reads = λ z. absurd (omega arith) }
+pub not_both : {E : Type 0} {e : E} → ◌≡◌ {A = Result ⊤ E} (Err e) (Ok tt) → ⊥
+not_both p = let n = ap tag p in omega arith
 
-  pub gives_found : (k : Mapped) → Over s₀ k s → found k ≡ out → Gives Says s₀ out 0 s
-  gives_found k o p = record { stops = λ n. absurd (n refl); reads = λ z. (k, sym p, o) }
+pub same_fault : {E : Type 0} (e x : E) → ◌≡◌ {A = Result ⊤ E} (Err e) (Err x) → e ≡ x
+same_fault e x p = cc
 
-  module _ {r : ℕ} (v : Gives Says s₀ out r s) where
+says_same : {E : Type 0} (Says : Fault → E → Type 0) (f : Fault) (e x : E) → e ≡ x → Says f e → Says f x
+says_same Says f e x p q = rw p at q
+
+module _ {E : Type 0} {Says : Fault → E → Type 0} {s₀ : List ℕ} {out : Out} {s : List ℕ} where
+  pub gives_fault : (f : Fault) (e : E) → Says f e → fault f ≡ out → Gives Says s₀ out (Err e) s
+  gives_fault f e q p = record { stops = λ x y. (f, sym p, says_same Says f e x (same_fault e x y) q); reads = λ y. absurd (not_both y) }
+
+  pub gives_found : (k : Mapped) → Over s₀ k s → found k ≡ out → Gives Says s₀ out (Ok tt) s
+  gives_found k o p = record { stops = λ e y. absurd (not_both (sym y)); reads = λ y. (k, sym p, o) }
+
+  module _ {r : Result ⊤ E} (v : Gives Says s₀ out r s) where
     pub gives_as : {to : Out} → out ≡ to → Gives Says s₀ to r s
     gives_as p = record {
-      stops = λ n. ((v.stops n).0, sym p ∙ (v.stops n).1, (v.stops n).2);
-      reads = λ z. ((v.reads z).0, sym p ∙ (v.reads z).1, (v.reads z).2);
+      stops = λ e y. ((v.stops e y).0, sym p ∙ (v.stops e y).1, (v.stops e y).2);
+      reads = λ y. ((v.reads y).0, sym p ∙ (v.reads y).1, (v.reads y).2);
     }
 
     -- a fault is the whole answer
-    pub stopped : (r ≡ 0 → ⊥) → (f : Mapped → Out) → Gives Says s₀ (and_then out f) r s
-    stopped n f = record {
-      stops = λ m. ((v.stops m).0, rw (v.stops m).1, (v.stops m).2);
-      reads = λ z. absurd (n z);
-    }
+    pub stopped : (e : E) → r ≡ Err e → (f : Mapped → Out) → Gives Says s₀ (and_then out f) (Err e) s
+    stopped e y f =
+        let a = v.stops e y in
+        record { stops = λ x q. (a.0, rw a.1, says_same Says a.0 e x (same_fault e x q) a.2); reads = λ q. absurd (not_both q) }
 
     -- with no fault the mapping goes on
-    pub went : (z : r ≡ 0) (f : Mapped → Out) → and_then out f ≡ f (v.reads z).0
-    went z f = rw (v.reads z).1
+    pub went : (y : r ≡ Ok tt) (f : Mapped → Out) → and_then out f ≡ f (v.reads y).0
+    went y f = rw (v.reads y).1
 
--- the kind of a fault at a place
-pub gives_kind : {s₀ : List ℕ} {out : Out} {s : List ℕ} (p : Place) (c : Kind) → fault (at p c) ≡ out → Gives (ByKind p) s₀ out (kind_number c) s
-gives_kind p c e = gives_fault (at p c) (kind_number c) (numbered c).some (refl, refl) e
+-- the same part in other words
+pub steps_as : {s : List ℕ} {r : Result ⊤ faults.Fault} {u : List ℕ} (p q : Machine → Mapped → Out) → ((m : Machine) (k : Mapped) → p m k ≡ q m k)
+    → Steps ByFault p s r u → Steps ByFault q s r u
+steps_as p q e v z k o = gives_as (v z k o) (e (decode z) k)
 
--- a kind with its place is a code
-module _ (p : Place) (part : Machine → Mapped → Out) (s : List ℕ) (n : ℕ) (u : List ℕ) (v : Steps (ByKind p) part s n u) where
-  pub kind_few : Begun s → n ≤ 11
-  kind_few b =
-      let g = v b.from b.rows b.over in
-      ⊎_elim
-      (λ z. omega arith)
-      (λ z. let f = g.stops z in omega (arith, f.2.1, (numbered f.0.kind).most))
-      (zero_or n)
+-- a kind of fault at a place
+pub gives_kind : {s₀ : List ℕ} {out : Out} {s : List ℕ} (p : Place) (c : kinds.Kind) → fault (at p (kind_is c)) ≡ out → Gives (ByKind p) s₀ out (Err c) s
+gives_kind p c e = gives_fault (at p (kind_is c)) c refl e
 
-  pub kind_coded : Indexed p → (at r : ℕ) → at ≡ place_number p → r ≡ code_in n at → Steps ByCode part s r u
-  unfolding code_in
-  kind_coded i at r q e z k o =
-      let g = v z k o in
-      ⊎_elim
-      (λ (y : n ≡ 0).
-      let x : r ≡ 0 = e ∙ rw (eq-eqb n 0 y) in
-      record { stops = λ m. absurd (m x); reads = λ w. g.reads y })
-      (λ (y : n ≡ 0 → ⊥).
-      let x : r ≡ n * 2 ^ 40 + at = e ∙ rw (ne_eqb n 0 y) in
-      record {
-        stops = λ m. let f = g.stops y in (f.0, f.1, (rw f.2.0 i, x ∙ rw (f.2.0, q, f.2.1)));
-        reads = λ w. absurd (y (omega arith));
-      })
-      (zero_or n)
+-- a kind with its place is a fault, as a closure makes it
+module _ (place : places.Place) (i : Indexed (place_is place)) (part : Machine → Mapped → Out) (s u : List ℕ) where
+  pub kind_stops : (Q : kinds.Kind → faults.Fault → Type 0) → ((c : kinds.Kind) (f : faults.Fault) → Q c f → f ≡ record { kind = c; place = place })
+      → (r : Result ⊤ kinds.Kind) → ((c : kinds.Kind) → r ≡ Err c → Steps (ByKind (place_is place)) part s (Err c) u) → (e : Result ⊤ faults.Fault)
+      → MatchResult r (λ x. e ≡ Ok x) (λ c. IsErrAnd e (Q c)) → (f : faults.Fault) → e ≡ Err f → Steps ByFault part s (Err f) u
+  kind_stops Q makes (Ok x) v e q f y z k o = absurd (not_both (sym y ∙ q))
+  kind_stops Q makes (Err c) v e q f y z k o =
+      let g = (v c refl z k o).stops c refl in
+      let h = err_from_is_err_and e q in
+      let m : f ≡ record { kind = c; place = place } = same_fault f h.0 (sym y ∙ h.1) ∙ makes c h.0 h.2 in
+      gives_fault g.0 f (rw g.2 i, rw (g.2, m)) (sym g.1)
+
+pub kind_none : (Q : kinds.Kind → faults.Fault → Type 0) (r : Result ⊤ kinds.Kind) (e : Result ⊤ faults.Fault)
+    → MatchResult r (λ x. e ≡ Ok x) (λ c. IsErrAnd e (Q c)) → e ≡ Ok tt → r ≡ Ok tt
+kind_none Q (Ok x) e q y = refl
+kind_none Q (Err c) e q y = let h = err_from_is_err_and e q in absurd (not_both (sym h.1 ∙ y))

@@ -7,6 +7,7 @@ use mathlib.Core.List.{List}
 use lib.ListN.{length}
 use lib.Seq.{take-length}
 use lib.Dec.{leb}
+use Rattle.std.specs.Prelude.{Ok, Err}
 use borrow.Author.Tests.{le-leb, lt-leb}
 use Rattle.lists.specs.Rows.{choose}
 use Rattle.lists.proofs.Find.{row_le}
@@ -22,9 +23,11 @@ use Rattle.layout.proofs.InPlace.{vcpus_few}
 use Rattle.maplayout.specs.MapLayout.{decode_map}
 use Rattle.maplayout.specs.Added.{collection_added}
 use Rattle.tables.specs.Bytes.{entry_at}
+use Rattle.codes.specs.declared.Kind.TheVariants.{Pe, Repeat, Collection17th}
+use Rattle.codes.specs.declared.Fault as faults
 use Rattle.tables.specs.Fault.{at_collection, fault_pe, fault_repeat, fault17th, at as faultAt}
 use Rattle.tables.specs.Restored.{Out, fault, found, and_then, visit_collection, read_collections}
-use Rattle.restore.specs.Begun.{Over, Begun, ByCode, ByKind, Steps}
+use Rattle.restore.specs.Begun.{Over, Begun, ByFault, ByKind, Steps}
 use Rattle.restore.proofs.Over.{same_guest, same_rows, guest_counted, over_collection}
 use Rattle.restore.proofs.Answers.{gives_kind, gives_found, gives_as, stopped, went}
 use Rattle.restore.proofs.Searches.{collections_size, stands, lacks}
@@ -65,24 +68,24 @@ module _ (t : List ℕ) (i : ℕ) (s : List ℕ) (w : ℕ) (c : CollectionEntry)
   vcpus : {z : List ℕ} {k : Mapped} → Over z k s → v ≡ length (decode z).vcpus
   vcpus o = n ∙ ap (λ (m : Machine). length m.vcpus) (same_guest o)
 
-  pub collection_high : v ≤ c.pe → Steps (ByKind (at_collection i)) (λ m. visit_collection m t i) s 1 s
-  collection_high h z k o = let e = vcpus o in gives_kind (at_collection i) fault_pe (high (decode z) t i k c row_read (omega arith))
+  pub collection_high : v ≤ c.pe → Steps (ByKind (at_collection i)) (λ m. visit_collection m t i) s (Err Pe) s
+  collection_high h z k o = let e = vcpus o in gives_kind (at_collection i) Pe (high (decode z) t i k c row_read (omega arith))
 
   module _ (h : c.pe < v) (at count : ℕ) (e : at ≡ index_of_collection c.icid (decode_map s)) (f : count ≡ length (decode_map s).collections) where
-    pub collection_again : at < count → Steps (ByKind (at_collection i)) (λ m. visit_collection m t i) s 2 s
+    pub collection_again : at < count → Steps (ByKind (at_collection i)) (λ m. visit_collection m t i) s (Err Repeat) s
     collection_again g z k o =
         let x = vcpus o in
-        gives_kind (at_collection i) fault_repeat (again (decode z) t i k c row_read (omega arith) (stands o c.icid at count e f g))
+        gives_kind (at_collection i) Repeat (again (decode z) t i k c row_read (omega arith) (stands o c.icid at count e f g))
 
     module _ (g : count ≤ at) where
-      pub collection_full : 16 ≤ count → Steps (ByKind (at_collection i)) (λ m. visit_collection m t i) s 3 s
+      pub collection_full : 16 ≤ count → Steps (ByKind (at_collection i)) (λ m. visit_collection m t i) s (Err Collection17th) s
       collection_full j z k o =
           let x = vcpus o in
           let y = collections_size o c.icid at count e f in
-          gives_kind (at_collection i) fault17th (full (decode z) t i k c row_read (omega arith) (lacks o c.icid at count e f g) (omega arith))
+          gives_kind (at_collection i) Collection17th (full (decode z) t i k c row_read (omega arith) (lacks o c.icid at count e f g) (omega arith))
 
       pub collection_new : count < 16 → (j : ℕ) → j ≡ place_of collection_key c.icid (decode_map s).collections
-          → (u : List ℕ) → u ≡ collection_added j (record { icid = c.icid; pe = c.pe }) s → Steps (ByKind (at_collection i)) (λ m. visit_collection m t i) s 0 u
+          → (u : List ℕ) → u ≡ collection_added j (record { icid = c.icid; pe = c.pe }) s → Steps (ByKind (at_collection i)) (λ m. visit_collection m t i) s (Ok tt) u
       collection_new b j d u a z k o =
           let x = vcpus o in
           let y = collections_size o c.icid at count e f in
@@ -124,7 +127,7 @@ module _ (t : List ℕ) (s₀ : List ℕ) where
     pub collections_begun : Begun s₀ → Begun s
     collections_begun b = let l = v.left b.from b.rows b.over in record { from = b.from; rows = l.rows; over = l.over }
 
-    pub collections_end : n ≤ i → Steps ByCode whole s₀ 0 s
+    pub collections_end : n ≤ i → Steps ByFault whole s₀ (Ok tt) s
     unfolding read_collections
     collections_end h z k o =
         let l = v.left z k o in
@@ -141,23 +144,23 @@ module _ (t : List ℕ) (s₀ : List ℕ) where
           let g : is_collection (entry_at t i) ≡ b = sym (q ∙ ap is_collection p) in
           rw f (rw (e, f, g) at r)
 
-      pub collections_blank : b ≡ false → Steps ByCode whole s₀ 0 s
+      pub collections_blank : b ≡ false → Steps ByFault whole s₀ (Ok tt) s
       collections_blank e z k o =
           let l = v.left z k o in
           gives_found l.rows l.over (rw e at (turn (decode z) l.rows _ l.rest))
 
-      module _ (e : b ≡ true) (r : ℕ) (u : List ℕ) (d : Steps ByCode (λ m. visit_collection m t i) s r u) where
+      module _ (e : b ≡ true) (u : List ℕ) where
         next : (m : Machine) (k : Mapped) (answer : Out) → read_collections m t (n - i) i k ≡ answer
             → and_then (visit_collection m t i k) (read_collections m t (n - (i + 1)) (i + 1)) ≡ answer
         next m k answer x = rw e at (turn m k answer x)
 
-        pub collections_fault : (r ≡ 0 → ⊥) → Steps ByCode whole s₀ r u
-        collections_fault y z k o =
+        pub collections_fault : (f : faults.Fault) → Steps ByFault (λ m. visit_collection m t i) s (Err f) u → Steps ByFault whole s₀ (Err f) u
+        collections_fault f d z k o =
             let l = v.left z k o in
-            gives_as (stopped (d z l.rows l.over) y _) (next (decode z) l.rows _ l.rest)
+            gives_as (stopped (d z l.rows l.over) f refl _) (next (decode z) l.rows _ l.rest)
 
-        pub collections_turn : r ≡ 0 → length u ≡ length s → Reading n (i + 1) u
-        collections_turn y l = record {
+        pub collections_turn : Steps ByFault (λ m. visit_collection m t i) s (Ok tt) u → length u ≡ length s → Reading n (i + 1) u
+        collections_turn d l = record {
           size = v.size;
           end = omega arith;
           same = l ∙ v.same;
@@ -165,5 +168,5 @@ module _ (t : List ℕ) (s₀ : List ℕ) where
               λ z k o.
               let l = v.left z k o in
               let a = d z l.rows l.over in
-              record { rows = (a.reads y).0; over = (a.reads y).2; rest = sym (went a y _) ∙ next (decode z) l.rows _ l.rest };
+              record { rows = (a.reads refl).0; over = (a.reads refl).2; rest = sym (went a refl _) ∙ next (decode z) l.rows _ l.rest };
         }

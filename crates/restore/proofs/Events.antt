@@ -6,6 +6,7 @@ use mathlib.Core.Bool.{Bool, true, false, ◌||◌}
 use mathlib.Core.List.{List, [], ◌∷◌, ◌++◌}
 use lib.ListN.{length}
 use lib.Dec.{ltb}
+use Rattle.std.specs.Prelude.{Result, Ok, Err, ⊤}
 use borrow.Author.Tests.{lt-ltb, le-ltb, le-leb, lt-leb}
 use Rattle.chains.specs.Slots.{Slots}
 use Rattle.entries.specs.declared.EventEntry.{EventEntry}
@@ -16,6 +17,8 @@ use Rattle.mapping.specs.Commands.{index_of_collection, has_collection, with_eve
 use Rattle.maplayout.specs.MapLayout.{decode_map}
 use Rattle.maplayout.specs.Added.{event_added}
 use Rattle.tables.specs.Bytes.{entry_at}
+use Rattle.codes.specs.declared.Kind as kinds
+use Rattle.codes.specs.declared.Kind.TheVariants.{Lpi, Next, Icid, Event1025th}
 use Rattle.tables.specs.Fault.{at_event, fault_next, fault_lpi, fault_icid, fault1025th, at as faultAt}
 use Rattle.tables.specs.Restored.{fault, found, walk, visit_event, read_events}
 use Rattle.restore.specs.Begun.{Over, ByKind, Steps}
@@ -72,37 +75,37 @@ module _ (t : List ℕ) (id i : ℕ) (good : Bool) (s : List ℕ) (w : ℕ) (c :
   row_read : c ≡ event_of (entry_at t i)
   row_read = q ∙ ap event_of p
 
-  abbrev Visit : ℕ → List ℕ → Type 0
+  abbrev Visit : Result ⊤ kinds.Kind → List ℕ → Type 0
   Visit r u = Steps (ByKind (at_event id i)) (λ m. visit_event t id good i) s r u
 
-  pub event_low : c.lpi < 8192 → Visit 9 s
-  event_low h z k o = gives_kind (at_event id i) fault_lpi (out t id i good k c row_read (low_out c.lpi h))
+  pub event_low : c.lpi < 8192 → Visit (Err Lpi) s
+  event_low h z k o = gives_kind (at_event id i) Lpi (out t id i good k c row_read (low_out c.lpi h))
 
   module _ (l : 8192 ≤ c.lpi) where
-    pub event_high : 65535 < c.lpi → Visit 9 s
-    event_high h z k o = gives_kind (at_event id i) fault_lpi (out t id i good k c row_read (high_out c.lpi h))
+    pub event_high : 65535 < c.lpi → Visit (Err Lpi) s
+    event_high h z k o = gives_kind (at_event id i) Lpi (out t id i good k c row_read (high_out c.lpi h))
 
     module _ (h : c.lpi ≤ 65535) where
-      pub event_lost : good ≡ false → Visit 4 s
-      event_lost g z k o = gives_kind (at_event id i) fault_next (lost t id i good k c row_read (in_range c.lpi l h) g)
+      pub event_lost : good ≡ false → Visit (Err Next) s
+      event_lost g z k o = gives_kind (at_event id i) Next (lost t id i good k c row_read (in_range c.lpi l h) g)
 
       module _ (y : good ≡ true) (at count : ℕ) (e : at ≡ index_of_collection c.icid (decode_map s)) (f : count ≡ length (decode_map s).collections) where
-        pub event_astray : count ≤ at → Visit 10 s
+        pub event_astray : count ≤ at → Visit (Err Icid) s
         event_astray g z k o =
-            gives_kind (at_event id i) fault_icid (astray t id i good k c row_read (in_range c.lpi l h) y (lacks o c.icid at count e f g))
+            gives_kind (at_event id i) Icid (astray t id i good k c row_read (in_range c.lpi l h) y (lacks o c.icid at count e f g))
 
         module _ (g : at < count) (n : ℕ) (d : n ≡ length (decode_map s).events) where
           events : {z : List ℕ} {k : Mapped} → Over z k s → n ≡ length k.events
           events o = d ∙ ap (λ (x : Mapped). length x.events) (same_rows o)
 
-          pub event_full : 1024 ≤ n → Visit 11 s
+          pub event_full : 1024 ≤ n → Visit (Err Event1025th) s
           event_full b z k o =
               let x = events o in
-              gives_kind (at_event id i) fault1025th
+              gives_kind (at_event id i) Event1025th
               (full t id i good k c row_read (in_range c.lpi l h) y (stands o c.icid at count e f g) (omega arith))
 
           pub event_new : n < 1024 → id < 65536 → i < 65536
-              → (u : List ℕ) → u ≡ event_added (record { device = id; event = i; lpi = c.lpi; icid = c.icid }) s → Visit 0 u
+              → (u : List ℕ) → u ≡ event_added (record { device = id; event = i; lpi = c.lpi; icid = c.icid }) s → Visit (Ok tt) u
           event_new b j r u a z k o =
               let x = events o in
               let icid = icid_small w c q in

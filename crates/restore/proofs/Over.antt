@@ -25,7 +25,7 @@ use Rattle.maplayout.specs.Added.{device_added, collection_added, event_added}
 use Rattle.maplayout.proofs.InPlace.{device_count, collection_count, event_count}
 use Rattle.maplayout.proofs.Round.{length-stored_map, guest_counts_kept, guest_kept, decode-stored_map}
 use Rattle.maplayout.proofs.Added.{device_added_lem, collection_added_lem, event_added_lem}
-use Rattle.restore.specs.Begun.{Over}
+use Rattle.restore.specs.Begun.{Over, Begun}
 use Rattle.restore.specs.Parts.{few_bits}
 
 module _ {s₀ : List ℕ} {k : Mapped} {s : List ℕ} (o : Over s₀ k s) where
@@ -139,3 +139,13 @@ over_empty s₀ s c r e = record {
   few = refl;
   is = e;
 }
+
+-- counts of bytes into which was read are in range
+pub begun_counted : (s : List ℕ) → Begun s → MapLayout.Counted s
+begun_counted s b = counted b.over
+
+pub begun_long : (s : List ℕ) → Begun s → length s ≡ Layout.size
+begun_long s b = (guest_counted b.over).long
+
+pub begun_guest : (s : List ℕ) → Begun s → Layout.Counted s
+begun_guest s b = guest_counted b.over

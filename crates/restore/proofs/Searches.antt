@@ -1,13 +1,17 @@
 -- Searches of the rows where they lie: what they tell of the mapping that was read so far. Assumes nothing.
-use Prim.Native.Nat.{ℕ, suc, ◌≤◌, ◌<◌}
-use native.Mathlib.Omega.{arith}
+use Prim.Native.Nat.{ℕ, ◌≤◌, ◌<◌}
 use mathlib.Core.Path.{◌≡◌, refl, sym, ap, ◌∙◌}
 use mathlib.Core.Bool.{Bool, true, false, ◌||◌}
 use mathlib.Core.List.{List, [], ◌∷◌, map}
-use lib.ListN.{length, get_or, length-map}
-use lib.Seq.{take_all}
+use lib.ListN.{length, get_or}
+use lib.Dec.{ltb}
 use borrow.Author.Tests.{lt-ltb, le-ltb, leb-true}
-use Rattle.lists.specs.Rows.{choose, find_ix, all}
+use Rattle.std.specs.Prelude.{cond, Option, Some, None}
+use Rattle.std.specs.List.{range_with_len, position_or_len, list_any}
+use Rattle.std.specs.Option.{unwrap_or}
+use Rattle.std.proofs.lemmas.List.FromFn.{fill_by_all}
+use Rattle.lists.specs.Rows.{find_ix, all}
+use Rattle.lists.proofs.Searches.{found_or_length, any_found}
 use Rattle.lists.proofs.All.{from_all, all_at}
 use Rattle.areas.specs.declared.Area.{Area}
 use Rattle.areas.specs.Area.{overlaps, struck, strikes}
@@ -19,20 +23,23 @@ use Rattle.rules.proofs.Facts.{sound_devices, sound_collections}
 use Rattle.mapping.specs.declared.Device.{Device}
 use Rattle.mapping.specs.Mapped.{Mapped, itt_area, no_device}
 use Rattle.mapping.specs.Commands.{table_areas, index_of_collection, has_collection}
-use Rattle.mapping.proofs.Table.{Seeking, seek_here, seek_end}
 use Rattle.layout.specs.Layout.{decode, tables_of}
 use Rattle.maplayout.specs.MapLayout.{decode_map}
 use Rattle.restore.specs.Begun.{Over, Begun}
 use Rattle.restore.specs.Parts.{few_bits}
 use Rattle.restore.proofs.Over.{same_guest, same_rows}
 
--- a search among all rows
-module _ {A : Type 0} (p : A → Bool) (d : A) (l : List A) (n i : ℕ) (e : n ≡ length l) (v : Seeking p d n l i) where
-  pub row_here : i < n → p (get_or l i d) ≡ true → i ≡ find_ix p l
-  row_here h t = seek_here p d n l i v h t ∙ ap (find_ix p) (take_all n l (omega arith))
+-- all rows, each read at its index, and a search among them
+module _ {A : Type 0} (d : A) (l : List A) (n : ℕ) (e : n ≡ length l) where
+  abbrev pub read_rows : List A
+  read_rows = map (λ i. get_or l i d) (range_with_len 0 n)
 
-  pub row_end : n ≤ i → n ≡ find_ix p l
-  row_end h = seek_end p d n l i v h ∙ ap (find_ix p) (take_all n l (omega arith))
+  all_rows : read_rows ≡ l
+  all_rows = sym (fill_by_all (λ i. get_or l i d) l n d (sym e) (λ k h. refl))
+
+  pub row_found : (p : A → Bool) (r : Option ℕ) → r ≡ cond (ltb (position_or_len p read_rows) (length read_rows)) (Some (position_or_len p read_rows)) None
+      → unwrap_or r n ≡ find_ix p l
+  row_found p r f = rw (f, all_rows, e) (found_or_length p l)
 
 -- whether a collection stands in the mapping that was read so far
 module _ {s₀ : List ℕ} {k : Mapped} {s : List ℕ} (o : Over s₀ k s) (icid at n : ℕ)
@@ -50,35 +57,23 @@ module _ {s₀ : List ℕ} {k : Mapped} {s : List ℕ} (o : Over s₀ k s) (icid
   lacks h = rw (← index, ← collections_size) (le-ltb at n h)
 
 -- the ITTs of the devices
-find_map : {A B : Type 0} (p : B → Bool) (f : A → B) (l : List A) → find_ix p (map f l) ≡ find_ix (λ x. p (f x)) l
-unfolding find_ix
-find_map p f [] = refl
-find_map p f (x ∷ l) = ap (λ (n : ℕ). choose (p (f x)) 0 (suc n)) (find_map p f l)
+any_map : {A B : Type 0} (p : B → Bool) (f : A → B) (l : List A) → list_any p (map f l) ≡ list_any (λ x. p (f x)) l
+any_map p f [] = refl
+any_map p f (x ∷ l) = ap (λ (b : Bool). p (f x) || b) (any_map p f l)
 
 module _ (l : List Device) (a : Area) where
   abbrev pub meets : Device → Bool
   meets d = overlaps a (itt_area d)
 
-  -- what the code has read of the row at i
-  pub met : (i : ℕ) (d : Device) (x : Area) (b : Bool) → d ≡ get_or l i no_device → x ≡ itt_area d → b ≡ overlaps a x → meets (get_or l i no_device) ≡ b
-  met i d x b p q r = sym (r ∙ ap (overlaps a) (q ∙ ap itt_area p))
+  -- the code's reads of them
+  pub itts_met : (n : ℕ) → n ≡ length l → (b : Bool) → b ≡ list_any (λ i. meets (get_or l i no_device)) (range_with_len 0 n) → b ≡ strikes (map itt_area l) a
+  unfolding strikes struck
+  itts_met n e b h =
+      h ∙ sym (any_map meets (λ i. get_or l i no_device) (range_with_len 0 n)) ∙ ap (list_any meets) (all_rows no_device l n e)
+      ∙ sym (any_map (overlaps a) itt_area l) ∙ any_found (overlaps a) (map itt_area l)
 
-  module _ (n i : ℕ) (e : n ≡ length l) (v : Seeking meets no_device n l i) where
-    pub itts_struck : i < n → meets (get_or l i no_device) ≡ true → true ≡ strikes (map itt_area l) a
-    unfolding strikes struck
-    itts_struck h t =
-        let f : find_ix (overlaps a) (map itt_area l) ≡ i = find_map (overlaps a) itt_area l ∙ sym (row_here meets no_device l n i e v h t) in
-        let g : length (map itt_area l) ≡ n = length-map l itt_area ∙ sym e in
-        sym (rw (f, g) (lt-ltb i n h))
-
-    pub itts_clear : n ≤ i → false ≡ strikes (map itt_area l) a
-    unfolding strikes struck
-    itts_clear h =
-        let f : find_ix (overlaps a) (map itt_area l) ≡ n = find_map (overlaps a) itt_area l ∙ sym (row_end meets no_device l n i e v h) in
-        let g : length (map itt_area l) ≡ n = length-map l itt_area ∙ sym e in
-        sym (rw (f, g) (le-ltb n n (omega arith)))
-
-  -- the row at i has few bits
+-- the row at i has few bits
+module _ (l : List Device) where
   pub bits_few : (i : ℕ) → i < length l → all few_bits l ≡ true → (d : Device) → d ≡ get_or l i no_device → d.bits ≤ 16
   bits_few i h f d e = rw e (leb-true (get_or l i no_device).bits 16 (all_at l i no_device (from_all few_bits l f) h))
 

@@ -1,10 +1,11 @@
 -- The loop of every walk along the chained entries of a table: what is left of the path has the answer. Assumes nothing.
 use Prim.Native.Nat.{ℕ, zero, suc, ◌+◌, ◌-◌, ◌/◌, ◌≤◌, ◌<◌}
 use native.Mathlib.Omega.{arith}
-use mathlib.Core.Path.{◌≡◌, sym, ap, ◌∙◌}
+use mathlib.Core.Path.{◌≡◌, refl, sym, ap, ◌∙◌}
 use mathlib.Core.Bool.{Bool, true, false}
 use mathlib.Core.List.{List}
 use lib.ListN.{length}
+use Rattle.std.specs.Prelude.{Result, Ok, Err, ⊤}
 use borrow.Author.Tests.{lt-ltb, le-ltb}
 use Rattle.chains.specs.declared.Next.{Next}
 use Rattle.chains.specs.declared.Next.TheVariants.{Last, At, Bad}
@@ -14,9 +15,10 @@ use Rattle.guest.specs.Machine.{Machine}
 use Rattle.mapping.specs.Mapped.{Mapped}
 use Rattle.layout.specs.Layout.{decode}
 use Rattle.tables.specs.Restored.{Out, found, and_then, run, walk}
+use Rattle.codes.specs.declared.Fault as faults
 use Rattle.restore.specs.Both.{slots_of}
 use Rattle.restore.proofs.Both.{cap_pos, next_small}
-use Rattle.restore.specs.Begun.{Over, Begun, ByCode, Steps}
+use Rattle.restore.specs.Begun.{Over, Begun, ByFault, Steps}
 use Rattle.restore.proofs.Over.{same_guest}
 use Rattle.restore.proofs.Answers.{gives_found, gives_as, stopped, went}
 
@@ -94,49 +96,49 @@ module _ (device : Bool) (t : List ℕ) (visit : Machine → Bool → ℕ → Ma
     pub walk_start : i < length t / 8 → Walks s₀ i s₀
     walk_start h z k o = record { rows = k; over = o; going = go_start device t (visit (decode z)) _ k (e (decode z) k) i f h }
 
-    pub walk_none : length t / 8 ≤ i → Steps ByCode whole s₀ 0 s₀
+    pub walk_none : length t / 8 ≤ i → Steps ByFault whole s₀ (Ok tt) s₀
     walk_none h z k o = gives_found k o (go_none device t (visit (decode z)) _ k (e (decode z) k) i f h)
 
   module _ (s₀ : List ℕ) (i : ℕ) (s : List ℕ) (w : Walks s₀ i s) where
     pub walk_begun : Begun s₀ → Begun s
     walk_begun b = let r = w b.from b.rows b.over in record { from = b.from; rows = r.rows; over = r.over }
 
-    -- the memory is as long, whatever was read
-    pub walk_memory : Begun s₀ → (n : ℕ) → n ≡ (decode s₀).memory.length → n ≡ (decode s).memory.length
-    walk_memory b n e =
+    -- the guest is the same, whatever was read
+    pub walk_same : Begun s₀ → (P : Machine → Type 0) → P (decode s₀) → P (decode s)
+    walk_same b P p =
         let r = w b.from b.rows b.over in
-        e ∙ ap (λ (m : Machine). m.memory.length) (same_guest b.over ∙ sym (same_guest r.over))
+        let e : decode s₀ ≡ decode s = same_guest b.over ∙ sym (same_guest r.over) in
+        rw e at p
 
     pub walk_inside : Begun s₀ → i < length t / 8
     walk_inside b = (w b.from b.rows b.over).going.inside
 
     module _ (n : Next) (e : n ≡ following (slots_of device t) i) where
-      pub walk_bad : (r : ℕ) (u : List ℕ) → Steps ByCode (λ m. visit m false i) s r u → n ≡ Bad → Steps ByCode whole s₀ r u
+      pub walk_bad : (r : Result ⊤ faults.Fault) (u : List ℕ) → Steps ByFault (λ m. visit m false i) s r u → n ≡ Bad → Steps ByFault whole s₀ r u
       walk_bad r u v x z k o =
           let a = w z k o in
           gives_as (v z a.rows a.over) (go_bad device t (visit (decode z)) _ i _ a.going n e x)
 
-      module _ (r : ℕ) (u : List ℕ) (v : Steps ByCode (λ m. visit m true i) s r u) where
-        pub walk_last : n ≡ Last → Steps ByCode whole s₀ r u
-        walk_last x z k o =
+      pub walk_last : (r : Result ⊤ faults.Fault) (u : List ℕ) → Steps ByFault (λ m. visit m true i) s r u → n ≡ Last → Steps ByFault whole s₀ r u
+      walk_last r u v x z k o =
+          let a = w z k o in
+          gives_as (v z a.rows a.over) (go_last device t (visit (decode z)) _ i _ a.going n e x)
+
+      module _ (u : List ℕ) (j : ℕ) (x : n ≡ At j) where
+        pub walk_fault : (f : faults.Fault) → Steps ByFault (λ m. visit m true i) s (Err f) u → Steps ByFault whole s₀ (Err f) u
+        walk_fault f v z k o =
             let a = w z k o in
-            gives_as (v z a.rows a.over) (go_last device t (visit (decode z)) _ i _ a.going n e x)
+            gives_as (stopped (v z a.rows a.over) f refl _) (go_next device t (visit (decode z)) _ i _ a.going n e j x)
 
-        module _ (j : ℕ) (x : n ≡ At j) where
-          pub walk_fault : (r ≡ 0 → ⊥) → Steps ByCode whole s₀ r u
-          walk_fault y z k o =
-              let a = w z k o in
-              gives_as (stopped (v z a.rows a.over) y _) (go_next device t (visit (decode z)) _ i _ a.going n e j x)
-
-          pub walk_on : r ≡ 0 → Walks s₀ j u
-          walk_on y z k o =
-              let a = w z k o in
-              let b = v z a.rows a.over in
-              record {
-                rows = (b.reads y).0;
-                over = (b.reads y).2;
-                going = go_on device t (visit (decode z)) _ i _ a.going n e j x (b.reads y).0 (went b y _);
-              }
+        pub walk_on : Steps ByFault (λ m. visit m true i) s (Ok tt) u → Walks s₀ j u
+        walk_on v z k o =
+            let a = w z k o in
+            let b = v z a.rows a.over in
+            record {
+              rows = (b.reads refl).0;
+              over = (b.reads refl).2;
+              going = go_on device t (visit (decode z)) _ i _ a.going n e j x (b.reads refl).0 (went b refl _);
+            }
 
       pub walk_less : Begun s₀ → (j : ℕ) → n ≡ At j → length t / 8 - j < length t / 8 - i
       walk_less b j x = go_less device t (visit (decode b.from)) _ i _ (w b.from b.rows b.over).going n e j x

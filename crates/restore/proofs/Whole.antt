@@ -4,8 +4,8 @@ use native.Mathlib.Omega.{arith}
 use mathlib.Core.Path.{◌≡◌, refl, sym, ap, ap₂, ◌∙◌}
 use mathlib.Core.Bool.{true}
 use mathlib.Core.List.{List}
-use mathlib.Core.Logic.{⊎_elim}
 use lib.ListN.{length, length-take}
+use Rattle.std.specs.Prelude.{Result, Ok, Err, ⊤}
 use borrow.Author.Tests.{eqb-true}
 use Rattle.areas.specs.declared.Area.{Area}
 use Rattle.areas.specs.Area.{inside}
@@ -19,19 +19,19 @@ use Rattle.mapping.specs.Mapped.{Mapped, empty}
 use Rattle.layout.specs.Layout.{decode, memory_of, tables_of}
 use Rattle.maplayout.specs.MapLayout.{stored_map}
 use Rattle.tables.specs.Bytes.{area_bytes, device_table, collection_table, device_slots}
-use Rattle.tables.specs.Fault.{Fault, kind_errno}
+use Rattle.tables.specs.Fault.{Fault, code}
+use Rattle.codes.specs.Codes.{fault_is, code_met}
+use Rattle.codes.specs.declared.Fault as faults
 use Rattle.tables.specs.Restored.{Out, fault, found, walk, and_then, read_collections, visit_device, read_devices, restored, verdict}
-use Rattle.codes.specs.Codes.{Answers}
-use Rattle.codes.proofs.Numbers.{numbered}
-use Rattle.restore.specs.Restores.{Restorable, Reads, Restores, errno_of}
-use Rattle.restore.specs.Begun.{Over, Begun, ByCode, Gives, Steps}
+use Rattle.restore.specs.Restores.{Restorable, Reads}
+use Rattle.restore.specs.Begun.{Over, Begun, ByFault, Gives, Steps}
 use Rattle.restore.specs.Both.{slots_of}
 use Rattle.restore.specs.Parts.{bytes_in}
 use Rattle.restore.proofs.Both.{device_slots_lem}
 use Rattle.restore.proofs.Over.{same_guest, over_empty}
 use Rattle.restore.proofs.Searches.{device_table_lem, collection_table_lem, device_pages_lem, collection_pages_lem}
 use Rattle.restore.proofs.Devices.{memory_loaded, memory_long}
-use Rattle.restore.proofs.Answers.{zero_or, gives_as, stopped, went}
+use Rattle.restore.proofs.Answers.{not_both, same_fault, gives_as, stopped, went}
 
 pub devices_walk : (m : Machine) (mem t : List ℕ) (k : Mapped) → walk (slots_of true t) (visit_device m mem t) k ≡ walk (device_slots t) (visit_device m mem t) k
 devices_walk m mem t k = ap (λ (T : Slots). walk T (visit_device m mem t) k) (device_slots_lem t)
@@ -86,43 +86,39 @@ abbrev rows_in : Out → Mapped
 rows_in (fault f) = empty
 rows_in (found k) = k
 
-not_both : (out : Out) (k : Mapped) (f : Fault) → out ≡ found k → out ≡ fault f → ⊥
-not_both out k f p q = let z : ◌≡◌ {A = ℕ} 0 1 = sym (ap tag q) ∙ ap tag p in omega arith
+abbrev fault_in : Fault → Out → Fault
+fault_in e (fault f) = f
+fault_in e (found k) = e
 
-reads_of : {s : List ℕ} {out : Out} {r : ℕ} {t : List ℕ} → Gives ByCode s out r t → Reads s out r t
-reads_of {s} {out} {r} {t} v = record {
-  is = ⊎_elim (λ z. z ∙ rw (v.reads z).1) (λ n. (v.stops n).2.1 ∙ rw (v.stops n).1) (zero_or r);
-  named =
-      λ f p.
-      ⊎_elim
-      (λ z. absurd (not_both out _ f (v.reads z).1 p))
-      (λ n.
-      let q : fault (v.stops n).0 ≡ fault f = sym (v.stops n).1 ∙ p in
-      let x : (v.stops n).0 ≡ f = cc in
-      rw x at (v.stops n).2.0)
-      (zero_or r);
-  stored =
-      λ k p.
-      ⊎_elim
-      (λ z. (v.reads z).2.is ∙ ap (λ (j : Mapped). stored_map j s) (sym (ap rows_in (v.reads z).1) ∙ ap rows_in p))
-      (λ n. absurd (not_both out k (v.stops n).0 p (v.stops n).1))
-      (zero_or r);
-}
+two_outs : (out : Out) (k : Mapped) (f : Fault) → out ≡ found k → out ≡ fault f → ⊥
+two_outs out k f p q = let z : ◌≡◌ {A = ℕ} 0 1 = sym (ap tag q) ∙ ap tag p in omega arith
 
--- the errno in the place of the code
-module _ (s : List ℕ) (out : Out) (n : ℕ) (t : List ℕ) (v : Reads s out n t) where
-  errno_by : (r : ℕ) → ((f : Fault) → out ≡ fault f → r ≡ kind_errno f.kind) → ((k : Mapped) → out ≡ found k → r ≡ 0) → (o : Out) → out ≡ o → r ≡ errno_of o
-  errno_by r a b (fault f) p = a f p
-  errno_by r a b (found k) p = b k p
+reads_of : (s : List ℕ) (out : Out) (r : Result ⊤ faults.Fault) (t : List ℕ) → Gives ByFault s out r t → Reads s out r t
+reads_of s out (Ok u) t v =
+    let a = v.reads refl in
+    record {
+      is = rw a.1;
+      named = λ f p. absurd (two_outs out a.0 f a.1 p);
+      stored = λ k p. a.2.is ∙ ap (λ (j : Mapped). stored_map j s) (sym (ap rows_in a.1) ∙ ap rows_in p);
+    }
+reads_of s out (Err e) t v =
+    let a = v.stops e refl in
+    record {
+      is = rw (a.1, a.2.1);
+      named = λ f p. rw (sym (ap (fault_in f) a.1) ∙ ap (fault_in f) p) at a.2.0;
+      stored = λ k p. absurd (two_outs out k a.0 p a.1);
+    }
 
-  errno_is : (r : ℕ) → r ≡ errno_of out → Restores s out r t
-  errno_is r e = record { is = e; named = v.named; stored = v.stored }
+-- the answer as a fault, and as a code
+pub reads_fault : {s : List ℕ} (out : Out) (f : faults.Fault) {t : List ℕ} → Reads s out (Err f) t → out ≡ fault (fault_is f)
+reads_fault (fault g) f v = ap fault (sym (same_fault _ _ v.is))
+reads_fault (found k) f v = absurd (not_both v.is)
 
-  pub errno_none : n ≡ 0 → Restores s out 0 t
-  errno_none z = errno_is 0 (errno_by 0 (λ f p. absurd (omega (arith, v.is ∙ ap verdict p, (numbered f.kind).some))) (λ k p. refl) out refl)
-
-  pub errno_some : (n ≡ 0 → ⊥) → (r : ℕ) → Answers n r → Restores s out r t
-  errno_some y r h = errno_is r (errno_by r (λ f p. h f (v.named f p) (v.is ∙ ap verdict p)) (λ k p. absurd (y (v.is ∙ ap verdict p))) out refl)
+pub reads_code : {s : List ℕ} (out : Out) (r : Result ⊤ faults.Fault) {t : List ℕ} → Reads s out r t → code_met r ≡ verdict out
+reads_code (fault g) (Ok u) v = absurd (not_both (sym v.is))
+reads_code (fault g) (Err f) v = ap code (same_fault _ _ v.is)
+reads_code (found k) (Ok u) v = refl
+reads_code (found k) (Err f) v = absurd (not_both v.is)
 
 -- the bytes with no mapping, the collections, and what comes after them
 module _ (s mem : List ℕ) (v : Restorable s (length mem)) (none : List ℕ) (e : none ≡ stored_map empty s) where
@@ -132,28 +128,28 @@ module _ (s mem : List ℕ) (v : Restorable s (length mem)) (none : List ℕ) (e
   pub restore_begun : Begun none
   restore_begun = record { from = s; rows = empty; over = start }
 
-  module _ (c : List ℕ) (q : c ≡ collection_table (decode s) mem) (n : ℕ) (u : List ℕ) (d : Steps ByCode (λ m. read_collections m c (length c / 8) 0) none n u) where
-    given : Gives ByCode s (read_collections (decode s) c (length c / 8) 0 empty) n u
-    given = d s empty start
-
+  module _ (c : List ℕ) (q : c ≡ collection_table (decode s) mem) (u : List ℕ) where
     first : and_then (read_collections (decode s) c (length c / 8) 0 empty) (read_devices (decode s) mem) ≡ restored (decode s) mem
     unfolding restored
     first = rw q
 
-    pub restore_fault : (n ≡ 0 → ⊥) → Reads s (restored (decode s) mem) n u
-    restore_fault y = reads_of (gives_as (stopped given y (read_devices (decode s) mem)) first)
+    pub restore_fault : (f : faults.Fault) → Steps ByFault (λ m. read_collections m c (length c / 8) 0) none (Err f) u → Reads s (restored (decode s) mem) (Err f) u
+    restore_fault f d = reads_of s _ (Err f) u (gives_as (stopped (d s empty start) f refl (read_devices (decode s) mem)) first)
 
-    module _ (y : n ≡ 0) where
+    module _ (d : Steps ByFault (λ m. read_collections m c (length c / 8) 0) none (Ok tt) u) where
+      given : Gives ByFault s (read_collections (decode s) c (length c / 8) 0 empty) (Ok tt) u
+      given = d s empty start
+
       pub restore_read : Begun u
-      restore_read = record { from = s; rows = (given.reads y).0; over = (given.reads y).2 }
+      restore_read = record { from = s; rows = (given.reads refl).0; over = (given.reads refl).2 }
 
       pub restore_memory : length mem ≡ (decode u).memory.length
-      restore_memory = v.memory ∙ ap (λ (m : Machine). m.memory.length) (sym (same_guest (given.reads y).2))
+      restore_memory = v.memory ∙ ap (λ (m : Machine). m.memory.length) (sym (same_guest (given.reads refl).2))
 
-      pub restore_rest : (t : List ℕ) → t ≡ device_table (decode s) mem → (r : ℕ) (w : List ℕ)
-          → Steps ByCode (λ m. walk (device_slots t) (visit_device m mem t)) u r w → Reads s (restored (decode s) mem) r w
+      pub restore_rest : (t : List ℕ) → t ≡ device_table (decode s) mem → (r : Result ⊤ faults.Fault) (w : List ℕ)
+          → Steps ByFault (λ m. walk (device_slots t) (visit_device m mem t)) u r w → Reads s (restored (decode s) mem) r w
       unfolding read_devices
       restore_rest t p r w f =
-          reads_of
-          (gives_as (f s (given.reads y).0 (given.reads y).2)
-          (ap (λ (x : List ℕ). walk (device_slots x) (visit_device (decode s) mem x) (given.reads y).0) p ∙ sym (went given y (read_devices (decode s) mem)) ∙ first))
+          reads_of s _ r w
+          (gives_as (f s (given.reads refl).0 (given.reads refl).2)
+          (ap (λ (x : List ℕ). walk (device_slots x) (visit_device (decode s) mem x) (given.reads refl).0) p ∙ sym (went given refl (read_devices (decode s) mem)) ∙ first))

@@ -1,5 +1,5 @@
 -- Bytes into which a restore has read so far, and the promise of each of its parts.
-use Rattle.std.specs.Prelude.{ℕ, ◌≡◌, true, List}
+use Rattle.std.specs.Prelude.{ℕ, ◌≡◌, true, List, Result, Ok, Err, ⊤}
 use Rattle.lists.specs.Rows.{all}
 use Rattle.guest.specs.Machine.{Machine}
 use Rattle.rules.specs.Rules.{rules}
@@ -8,8 +8,11 @@ use Rattle.mapping.specs.MapWords.{MapWords}
 use Rattle.layout.specs.Layout.{decode, Counted}
 use Rattle.maplayout.specs.MapLayout.{stored_map}
 use Rattle.maplayout.proofs.Round.{MapRoom}
-use Rattle.tables.specs.Fault.{Place, Fault, kind_number, code, Indexed}
+use Rattle.tables.specs.Fault.{Place, Fault, at, Indexed}
 use Rattle.tables.specs.Restored.{Out, fault, found}
+use Rattle.codes.specs.Codes.{kind_is, fault_is}
+use Rattle.codes.specs.declared.Kind as kinds
+use Rattle.codes.specs.declared.Fault as faults
 use Rattle.restore.specs.Parts.{few_bits}
 
 -- Inner: s is s₀ with the mapping k stored in it: k was read so far, and fits its place in the bytes
@@ -27,18 +30,18 @@ pub record Begun (s : List ℕ) : Type 0 where
   pub rows : Mapped
   pub over : Over from rows s
 
--- Inner: what a part says of its fault: its code; or, of the entry at a known place, the number of its kind alone
-abbrev pub ByCode : Fault → ℕ → Type 0
-ByCode f r = Indexed f.place × (r ≡ code f)
+-- Inner: what a part says of the fault that it meets: all of it; or, of the entry at a known place, its kind alone
+abbrev pub ByFault : Fault → faults.Fault → Type 0
+ByFault f e = Indexed f.place × (f ≡ fault_is e)
 
-abbrev pub ByKind : Place → Fault → ℕ → Type 0
-ByKind p f r = (f.place ≡ p) × (r ≡ kind_number f.kind)
+abbrev pub ByKind : Place → Fault → kinds.Kind → Type 0
+ByKind p f c = f ≡ at p (kind_is c)
 
--- Inner: what is said of the fault, or 0 and the mapping that the bytes now hold
-pub record Gives (Says : Fault → ℕ → Type 0) (s₀ : List ℕ) (out : Out) (r : ℕ) (s : List ℕ) : Type 0 where
-  pub stops : (r ≡ 0 → ⊥) → (f : Fault) × (out ≡ fault f) × Says f r
-  pub reads : r ≡ 0 → (k : Mapped) × (out ≡ found k) × Over s₀ k s
+-- Inner: what is said of the fault, or the mapping that the bytes now hold
+pub record Gives {E : Type 0} (Says : Fault → E → Type 0) (s₀ : List ℕ) (out : Out) (r : Result ⊤ E) (s : List ℕ) : Type 0 where
+  pub stops : (e : E) → r ≡ Err e → (f : Fault) × (out ≡ fault f) × Says f e
+  pub reads : r ≡ Ok tt → (k : Mapped) × (out ≡ found k) × Over s₀ k s
 
 -- Inner: a part of a restore, on whatever mapping was read before it
-abbrev pub Steps : (Fault → ℕ → Type 0) → (Machine → Mapped → Out) → List ℕ → ℕ → List ℕ → Type 0
+abbrev pub Steps : {E : Type 0} → (Fault → E → Type 0) → (Machine → Mapped → Out) → List ℕ → Result ⊤ E → List ℕ → Type 0
 Steps Says part s r t = (s₀ : List ℕ) (k : Mapped) → Over s₀ k s → Gives Says s₀ (part (decode s₀) k) r t

@@ -1,9 +1,9 @@
 // Where tables lie in memory: their areas, the bytes of an area, and whether an area overlaps one of them.
-ghost use Rattle.std.specs.Prelude.{◌≡◌, true, map, ◌≤◌, length};
+ghost use Rattle.std.specs.Prelude.{◌≡◌, true, map, ◌≤◌, ◌<◌, length, get_or};
 ghost use Rattle.lists.specs.Rows.{all};
-ghost use Rattle.areas.specs.Area.{inside, strikes};
+ghost use Rattle.areas.specs.Area.{overlaps, inside, strikes};
 ghost use Rattle.rules.specs.Rules.{table_area, memory_area};
-ghost use Rattle.mapping.specs.Mapped.{itt_area};
+ghost use Rattle.mapping.specs.Mapped.{itt_area, no_device};
 ghost use Rattle.mapping.specs.Commands.{table_areas};
 ghost use Rattle.layout.specs.Layout.{decode};
 ghost use Rattle.maplayout.specs.MapLayout.{decode_map, Counted};
@@ -20,6 +20,7 @@ const PAGE: u64 = 4096;
 // The bytes of an entry of an ITT.
 const ENTRY: u64 = 8;
 
+// No From: Area, Memory, Table and Device belong to other crates. crates/its has the same areas, and a restore does not build on it.
 pub fn memory_area(m: Memory) -> Area
     ensures { result ≡ memory_area m }
 {
@@ -60,21 +61,21 @@ pub fn area_bytes(memory: Memory, a: Area, mem: &[u8]) -> &[u8]
     &mem[from..to]
 }
 
+// Whether an area overlaps the ITT of the device at `i`.
+fn meets_itt(s: &[u8], a: Area, i: usize) -> bool
+    requires { (Counted s.now) × (all few_bits (decode_map s.now).devices ≡ true) × (i < length (decode_map s.now).devices) }
+    ensures { result ≡ overlaps a (itt_area (get_or (decode_map s.now).devices i no_device)) }
+{
+    areas::overlaps(a, itt_area(maplayout::device_at(s, i)))
+}
+
 // Whether an area overlaps a device's ITT.
 fn strikes_itts(s: &[u8], a: Area) -> bool
     requires { (Counted s.now) × (all few_bits (decode_map s.now).devices ≡ true) }
     ensures { result ≡ strikes (map itt_area (decode_map s.now).devices) a }
 {
     let n = maplayout::device_count(s);
-    let mut i: usize = 0;
-    while i < n {
-        let d = maplayout::device_at(s, i);
-        if areas::overlaps(a, itt_area(d)) {
-            return true;
-        }
-        i += 1;
-    }
-    false
+    (0..n).any(|i| meets_itt(s, a, i))
 }
 
 // Whether an area overlaps a table in memory: the device table, the collection table or a device's ITT.

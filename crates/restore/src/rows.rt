@@ -1,4 +1,4 @@
-// The collections that were read so far, where they lie in the bytes.
+// The collections that were read so far, where they lie in the bytes. crates/mapcheck has the same search, and a restore does not build on it.
 ghost use Rattle.std.specs.Prelude.{◌≡◌};
 ghost use Rattle.mapping.specs.Mapped.{collection_key, place_of};
 ghost use Rattle.mapping.specs.Commands.{index_of_collection};
@@ -10,15 +10,10 @@ pub fn find_collection(s: &[u8], icid: u64) -> usize
     ensures { result ≡ index_of_collection icid (decode_map s.now) }
 {
     let n = maplayout::collection_count(s);
-    let mut i: usize = 0;
-    while i < n {
-        let c = maplayout::collection_at(s, i);
-        if c.icid == icid {
-            return i;
-        }
-        i += 1;
-    }
-    n
+    (0..n)
+        .map(|i| maplayout::collection_at(s, i))
+        .position(|c| c.icid == icid)
+        .unwrap_or(n)
 }
 
 // The index of the first collection whose ICID is not below this one, or the number of collections.
@@ -27,13 +22,8 @@ pub fn place_collection(s: &[u8], icid: u64) -> usize
     ensures { result ≡ place_of collection_key icid (decode_map s.now).collections }
 {
     let n = maplayout::collection_count(s);
-    let mut i: usize = 0;
-    while i < n {
-        let c = maplayout::collection_at(s, i);
-        if icid <= c.icid {
-            return i;
-        }
-        i += 1;
-    }
-    n
+    (0..n)
+        .map(|i| maplayout::collection_at(s, i))
+        .position(|c| icid <= c.icid)
+        .unwrap_or(n)
 }

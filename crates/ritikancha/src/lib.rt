@@ -9,7 +9,7 @@ ghost use Rattle.xics.specs.XicsStep.{xics_step, xics_len, xics_setup, add_serve
 
 use calls::{Change, Command, Question};
 use xics::XicsChange;
-use xicsrows::Xics;
+use xicsrows::Table;
 
 // §1.2: the length of a guest's state in bytes.
 #[unsafe(no_mangle)]
@@ -24,7 +24,7 @@ pub extern "C" fn rk_state_len() -> i64
 pub extern "C" fn rk_setup(state: &mut [u8], width: u64, start: u64, length: u64) -> i64
     ensures { Leaves (step (setup width start length) state.old []) result state.new [] }
 {
-    calls::set_up(state, width, start, length)
+    calls::sign(calls::set_up(state, width, start, length))
 }
 
 // §3.1: adds a VCPU.
@@ -32,7 +32,7 @@ pub extern "C" fn rk_setup(state: &mut [u8], width: u64, start: u64, length: u64
 pub extern "C" fn rk_vcpu_add(state: &mut [u8], affinity: u32) -> i64
     ensures { Leaves (step (vcpu_add affinity) state.old []) result state.new [] }
 {
-    calls::apply(state, Change::AddVcpu(affinity as u64))
+    calls::sign(calls::apply(state, Change::AddVcpu(affinity as u64)))
 }
 
 // §3.2: sets the running mark.
@@ -40,7 +40,7 @@ pub extern "C" fn rk_vcpu_add(state: &mut [u8], affinity: u32) -> i64
 pub extern "C" fn rk_vcpus_start(state: &mut [u8]) -> i64
     ensures { Leaves (step vcpus_start state.old []) result state.new [] }
 {
-    calls::apply(state, Change::Start)
+    calls::sign(calls::apply(state, Change::Start))
 }
 
 // §3.2: takes the running mark away.
@@ -48,7 +48,7 @@ pub extern "C" fn rk_vcpus_start(state: &mut [u8]) -> i64
 pub extern "C" fn rk_vcpus_stop(state: &mut [u8]) -> i64
     ensures { Leaves (step vcpus_stop state.old []) result state.new [] }
 {
-    calls::apply(state, Change::Stop)
+    calls::sign(calls::apply(state, Change::Stop))
 }
 
 // §2.7: sets an attribute of the VGIC. The length of the value goes along, as its group tests it (§2.8).
@@ -58,7 +58,7 @@ pub extern "C" fn rk_vgic_set(state: &mut [u8], group: u64, attribute: u64, valu
 {
     let width = value.len() as u64;
     let number = calls::value_of(value);
-    calls::apply(state, Change::VgicSet(group, attribute, width, number))
+    calls::sign(calls::apply(state, Change::VgicSet(group, attribute, width, number)))
 }
 
 // §2.7: sets an attribute of the ITS. RESET, group 4, attribute 4, is a command: it empties the mapping (§5.14).
@@ -68,13 +68,10 @@ pub extern "C" fn rk_its_set(state: &mut [u8], group: u64, attribute: u64, value
 {
     let width = value.len() as u64;
     let number = calls::value_of(value);
-    if group != 4 {
-        return calls::apply(state, Change::ItsSet(group, attribute, width, number));
+    if group == 4 && attribute == 4 {
+        return calls::sign(calls::run_command(state, Command::Reset(width)));
     }
-    if attribute != 4 {
-        return calls::apply(state, Change::ItsSet(group, attribute, width, number));
-    }
-    calls::run_command(state, Command::Reset(width))
+    calls::sign(calls::apply(state, Change::ItsSet(group, attribute, width, number)))
 }
 
 // §2.7: reads an attribute of the VGIC into the value, whose number a get of a region needs (§3.10).
@@ -85,7 +82,7 @@ pub extern "C" fn rk_vgic_get(state: &[u8], group: u64, attribute: u64, value: &
     let width = value.len() as u64;
     let number = calls::value_of(value);
     let r = calls::ask(state, Question::VgicGet(group, attribute, width, number));
-    calls::give(value, r)
+    calls::sign(calls::give(value, r))
 }
 
 // §2.7: reads an attribute of the ITS into the value.
@@ -95,7 +92,7 @@ pub extern "C" fn rk_its_get(state: &[u8], group: u64, attribute: u64, value: &m
 {
     let width = value.len() as u64;
     let r = calls::ask(state, Question::ItsGet(group, attribute, width));
-    calls::give(value, r)
+    calls::sign(calls::give(value, r))
 }
 
 // §3.13: where a VCPU's redistributor lies.
@@ -119,7 +116,7 @@ pub extern "C" fn rk_irq_pending(state: &[u8], vcpu: u64, intid: u64) -> i64
 pub extern "C" fn rk_irq_set_pending(state: &mut [u8], vcpu: u64, intid: u64) -> i64
     ensures { Leaves (step (irq_set_pending vcpu intid) state.old []) result state.new [] }
 {
-    calls::apply(state, Change::SetPending(vcpu, intid))
+    calls::sign(calls::apply(state, Change::SetPending(vcpu, intid)))
 }
 
 // §4.5: makes a latch 0.
@@ -127,7 +124,7 @@ pub extern "C" fn rk_irq_set_pending(state: &mut [u8], vcpu: u64, intid: u64) ->
 pub extern "C" fn rk_irq_clear_pending(state: &mut [u8], vcpu: u64, intid: u64) -> i64
     ensures { Leaves (step (irq_clear_pending vcpu intid) state.old []) result state.new [] }
 {
-    calls::apply(state, Change::ClearPending(vcpu, intid))
+    calls::sign(calls::apply(state, Change::ClearPending(vcpu, intid)))
 }
 
 // §4.5: makes a latch 0.
@@ -135,7 +132,7 @@ pub extern "C" fn rk_irq_clear_pending(state: &mut [u8], vcpu: u64, intid: u64) 
 pub extern "C" fn rk_irq_activate(state: &mut [u8], vcpu: u64, intid: u64) -> i64
     ensures { Leaves (step (irq_activate vcpu intid) state.old []) result state.new [] }
 {
-    calls::apply(state, Change::Activate(vcpu, intid))
+    calls::sign(calls::apply(state, Change::Activate(vcpu, intid)))
 }
 
 // §4.6: stores a level.
@@ -143,7 +140,7 @@ pub extern "C" fn rk_irq_activate(state: &mut [u8], vcpu: u64, intid: u64) -> i6
 pub extern "C" fn rk_irq_line(state: &mut [u8], vcpu: u64, intid: u64, level: u64) -> i64
     ensures { Leaves (step (irq_line vcpu intid level) state.old []) result state.new [] }
 {
-    calls::apply(state, Change::Line(vcpu, intid, level))
+    calls::sign(calls::apply(state, Change::Line(vcpu, intid, level)))
 }
 
 // §4.7: stores a bank's trigger word.
@@ -151,7 +148,7 @@ pub extern "C" fn rk_irq_line(state: &mut [u8], vcpu: u64, intid: u64, level: u6
 pub extern "C" fn rk_irq_trigger(state: &mut [u8], vcpu: u64, intid: u64, word: u32) -> i64
     ensures { Leaves (step (irq_trigger vcpu intid word) state.old []) result state.new [] }
 {
-    calls::apply(state, Change::Trigger(vcpu, intid, word as u64))
+    calls::sign(calls::apply(state, Change::Trigger(vcpu, intid, word as u64)))
 }
 
 // §5.4: places the two tables.
@@ -165,7 +162,7 @@ pub extern "C" fn rk_its_place(
 ) -> i64
     ensures { Leaves (step (its_place dstart dpages cstart cpages) state.old []) result state.new [] }
 {
-    calls::run_command(state, Command::Place(dstart, dpages, cstart, cpages))
+    calls::sign(calls::run_command(state, Command::Place(dstart, dpages, cstart, cpages)))
 }
 
 // §5.6: maps a device.
@@ -173,7 +170,7 @@ pub extern "C" fn rk_its_place(
 pub extern "C" fn rk_its_map_device(state: &mut [u8], device: u64, itt: u64, bits: u64) -> i64
     ensures { Leaves (step (its_map_device device itt bits) state.old []) result state.new [] }
 {
-    calls::run_command(state, Command::MapDevice(device, itt, bits))
+    calls::sign(calls::run_command(state, Command::MapDevice(device, itt, bits)))
 }
 
 // §5.7: removes a device.
@@ -181,7 +178,7 @@ pub extern "C" fn rk_its_map_device(state: &mut [u8], device: u64, itt: u64, bit
 pub extern "C" fn rk_its_unmap_device(state: &mut [u8], device: u64) -> i64
     ensures { Leaves (step (its_unmap_device device) state.old []) result state.new [] }
 {
-    calls::run_command(state, Command::UnmapDevice(device))
+    calls::sign(calls::run_command(state, Command::UnmapDevice(device)))
 }
 
 // §5.8: maps a collection.
@@ -189,7 +186,7 @@ pub extern "C" fn rk_its_unmap_device(state: &mut [u8], device: u64) -> i64
 pub extern "C" fn rk_its_map_collection(state: &mut [u8], icid: u64, pe: u64) -> i64
     ensures { Leaves (step (its_map_collection icid pe) state.old []) result state.new [] }
 {
-    calls::run_command(state, Command::MapCollection(icid, pe))
+    calls::sign(calls::run_command(state, Command::MapCollection(icid, pe)))
 }
 
 // §5.9: removes a collection.
@@ -197,7 +194,7 @@ pub extern "C" fn rk_its_map_collection(state: &mut [u8], icid: u64, pe: u64) ->
 pub extern "C" fn rk_its_unmap_collection(state: &mut [u8], icid: u64) -> i64
     ensures { Leaves (step (its_unmap_collection icid) state.old []) result state.new [] }
 {
-    calls::run_command(state, Command::UnmapCollection(icid))
+    calls::sign(calls::run_command(state, Command::UnmapCollection(icid)))
 }
 
 // §5.10: maps an event.
@@ -211,7 +208,7 @@ pub extern "C" fn rk_its_map_event(
 ) -> i64
     ensures { Leaves (step (its_map_event device event lpi icid) state.old []) result state.new [] }
 {
-    calls::run_command(state, Command::MapEvent(device, event, lpi, icid))
+    calls::sign(calls::run_command(state, Command::MapEvent(device, event, lpi, icid)))
 }
 
 // §5.11: removes an event.
@@ -219,7 +216,7 @@ pub extern "C" fn rk_its_map_event(
 pub extern "C" fn rk_its_discard(state: &mut [u8], device: u64, event: u64) -> i64
     ensures { Leaves (step (its_discard device event) state.old []) result state.new [] }
 {
-    calls::run_command(state, Command::Discard(device, event))
+    calls::sign(calls::run_command(state, Command::Discard(device, event)))
 }
 
 // §5.12: gives an event another collection.
@@ -227,7 +224,7 @@ pub extern "C" fn rk_its_discard(state: &mut [u8], device: u64, event: u64) -> i
 pub extern "C" fn rk_its_move(state: &mut [u8], device: u64, event: u64, icid: u64) -> i64
     ensures { Leaves (step (its_move device event icid) state.old []) result state.new [] }
 {
-    calls::run_command(state, Command::Move(device, event, icid))
+    calls::sign(calls::run_command(state, Command::Move(device, event, icid)))
 }
 
 // §5.13: the LPI of an event and the pe of its collection.
@@ -243,7 +240,7 @@ pub extern "C" fn rk_its_lookup(state: &[u8], device: u64, event: u64) -> i64
 pub extern "C" fn rk_its_save(state: &[u8], memory: &mut [u8]) -> i64
     ensures { Leaves (step its_save state.now memory.old) result state.now memory.new }
 {
-    calls::save(state, memory)
+    calls::sign(calls::save(state, memory))
 }
 
 // §9.1: takes the mapping from the lent memory.
@@ -251,7 +248,7 @@ pub extern "C" fn rk_its_save(state: &[u8], memory: &mut [u8]) -> i64
 pub extern "C" fn rk_its_restore(state: &mut [u8], memory: &[u8]) -> i64
     ensures { Leaves (step its_restore state.old memory.now) result state.new memory.now }
 {
-    calls::restore(state, memory)
+    calls::sign(calls::restore(state, memory))
 }
 
 // §13.1: names the first fault of the tables in the lent memory, or says that they describe a mapping.
@@ -320,8 +317,8 @@ pub extern "C" fn rk_xics_get_source(xics: &[u8], number: u64, value: &mut [u8])
     ensures { Leaves (xics_step (get_source number) xics.now value.old) result xics.now value.new }
 {
     let width = value.len() as u64;
-    let r = xics::ask_word(xics, Xics::SOURCE, number, width);
-    calls::give(value, r)
+    let r = xics::ask_word(xics, Table::Sources, number, width);
+    calls::sign(calls::give(value, r))
 }
 
 // §14.11: reads a server's word into the value.
@@ -330,8 +327,8 @@ pub extern "C" fn rk_xics_get_server(xics: &[u8], number: u64, value: &mut [u8])
     ensures { Leaves (xics_step (get_server number) xics.now value.old) result xics.now value.new }
 {
     let width = value.len() as u64;
-    let r = xics::ask_word(xics, Xics::SERVER, number, width);
-    calls::give(value, r)
+    let r = xics::ask_word(xics, Table::Servers, number, width);
+    calls::sign(calls::give(value, r))
 }
 
 // §14.11: whether a source is deliverable.

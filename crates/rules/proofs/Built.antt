@@ -1,11 +1,10 @@
 -- The frames that stand, as the code puts them behind one another. Assumes nothing.
 use Prim.Native.Nat.{ℕ, ◌*◌}
-use mathlib.Core.Path.{◌≡◌, sym}
-use mathlib.Core.List.{List, [], ◌∷◌, ◌++◌, map, append-nil}
+use mathlib.Core.Path.{◌≡◌}
+use mathlib.Core.List.{List, [], ◌++◌, map}
 use lib.ListN.{length}
 use borrow.Author.Tests.{eq-eqb, ne_eqb}
 use Rattle.areas.specs.declared.Area.{Area}
-use Rattle.guest.specs.declared.Frame.{Frame}
 use Rattle.guest.specs.Machine.{Machine}
 use Rattle.rules.specs.Standing.{placed, run_size, region_area, standing, others, distributor_size, redistributor_size, its_size}
 
@@ -26,11 +25,3 @@ module _ (m : Machine) where
       → c ≡ b ++ map region_area m.regions → d ≡ c ++ placed m.frames.its its_size → d ≡ others m
   unfolding others
   others_built a b c d ha hb hc hd = rw (hd, hc, hb, ha)
-
--- a frame behind what stands
-module _ (f : Frame) (size : ℕ) (l : List Area) where
-  pub frame_behind : f.set ≡ 1 → l ++ (record { start = f.base; size = size } ∷ []) ≡ l ++ placed f size
-  frame_behind s = rw (eq-eqb f.set 1 s)
-
-  pub frame_nowhere : (f.set ≡ 1 → ⊥) → l ≡ l ++ placed f size
-  frame_nowhere n = rw (ne_eqb f.set 1 n) (sym (append-nil l))

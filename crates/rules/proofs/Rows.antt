@@ -2,28 +2,27 @@
 use Prim.Native.Nat.{ℕ, ◌+◌, ◌-◌, ◌≤◌, ◌<◌}
 use native.Mathlib.Omega.{arith}
 use native.Mathlib.Numerals.{add-one}
-use mathlib.Core.Path.{◌≡◌, refl, ap, ◌∙◌}
-use mathlib.Core.Bool.{Bool, true, false, ◌&&◌, not}
+use mathlib.Core.Path.{◌≡◌, refl, ap}
+use mathlib.Core.Bool.{Bool, true}
 use mathlib.Core.List.{List, [], ◌∷◌, ◌++◌, map, append_assoc}
 use lib.ListN.{length, get_or, take, drop}
 use lib.Seq.{take-suc, get_or-take, length-take-le}
 use lib.Dec.{leb, eqb}
 use borrow.Author.Tests.{ltb-true, le-leb, leb-true, eq-eqb, eqb-true}
+use Rattle.std.proofs.lemmas.List.{map-append, at_drop_more, at_drop_all}
+use Rattle.std.specs.List.{list_any}
 use Rattle.lists.specs.Rows.{all}
 use Rattle.lists.proofs.All.{All, none, more, from_all, to_all, all_at}
+use Rattle.lists.proofs.Searches.{any_found}
 use Rattle.areas.proofs.Tests.{same, leb_same}
-use Rattle.areas.proofs.Has.{rows_left, rows_end, has_here, has_later, has_end}
 use Rattle.guest.specs.declared.Region.{Region}
 use Rattle.guest.specs.declared.Vcpu.{Vcpu}
 use Rattle.guest.specs.Machine.{no_bank}
 use Rattle.rules.specs.Standing.{total, small_count}
-use Rattle.rules.specs.Rules.{taken, has_affinity, distinct}
+use Rattle.rules.specs.Rules.{taken, has_affinity}
 
 abbrev pub no_region : Region
 no_region = record { base = 0; count = 0 }
-
-abbrev pub blank_vcpu : Vcpu
-blank_vcpu = record { affinity = 0; bank = no_bank; status = 0 }
 
 module _ {A : Type 0} where
   -- the row at i passes where all rows do
@@ -41,67 +40,39 @@ module _ {A : Type 0} where
       go (x ∷ k) (more a b) = more (f x a) (go k b)
 
 module _ {A B : Type 0} (f : A → B) where
-  map-append : (a b : List A) → map f (a ++ b) ≡ map f a ++ map f b
-  map-append [] b = refl
-  map-append (x ∷ a) b = ap (λ (l : List B). f x ∷ l) (map-append a b)
-
   -- one row more behind what stands
   pub map_more : (base so : List B) (l : List A) (i : ℕ) (d : A) → i < length l → so ≡ base ++ map f (take i l) → so ++ (f (get_or l i d) ∷ []) ≡ base ++ map f (take (i + 1) l)
   map_more base so l i d h e = rw (e, add-one, take-suc l i d h, map-append, append_assoc)
 
 -- what the size of a region asks
-pub count_small : (n : ℕ) (l : List Region) (i : ℕ) → n ≤ length l → i < n → all small_count (take n l) ≡ true → (get_or l i no_region).count < 4096
-count_small n l i f h e = ltb-true (get_or l i no_region).count 4096 (row_passes small_count no_region n l i f h e)
+pub count_small : (l : List Region) (i : ℕ) (d : Region) → i < length l → all small_count l ≡ true → (get_or l i d).count < 4096
+count_small l i d h e = ltb-true (get_or l i d).count 4096 (all_at l i d (from_all small_count l e) h)
 
 -- the room of regions
-module _ (n : ℕ) (l : List Region) (i : ℕ) (f : n ≤ length l) (left : ℕ) where
+module _ (l : List Region) (i : ℕ) (d : Region) (left : ℕ) where
   rest : ℕ
-  rest = total (drop (i + 1) (take n l))
+  rest = total (drop (i + 1) l)
 
-  total_turn : i < n → total (drop i (take n l)) ≡ (get_or l i no_region).count + rest
+  total_turn : i < length l → total (drop i l) ≡ (get_or l i d).count + rest
   unfolding total rest
-  total_turn h = ap total (rows_left no_region n l i f h)
+  total_turn h = at_drop_more total l i d h
 
-  pub covers_here : i < n → left ≤ (get_or l i no_region).count → leb left (total (drop i (take n l))) ≡ true
-  covers_here h g = rw (total_turn h) (le-leb left ((get_or l i no_region).count + rest) (omega arith))
+  pub covers_here : i < length l → left ≤ (get_or l i d).count → leb left (total (drop i l)) ≡ true
+  covers_here h g = rw (total_turn h) (le-leb left ((get_or l i d).count + rest) (omega arith))
 
-  pub covers_later : i < n → (get_or l i no_region).count < left → leb left (total (drop i (take n l))) ≡ leb (left - (get_or l i no_region).count) (total (drop (i + 1) (take n l)))
+  pub covers_later : i < length l → (get_or l i d).count < left → leb left (total (drop i l)) ≡ leb (left - (get_or l i d).count) (total (drop (i + 1) l))
   unfolding rest
   covers_later h g =
       rw (total_turn h)
-      (leb_same left ((get_or l i no_region).count + rest) (left - (get_or l i no_region).count) rest (λ k. omega arith) (λ k. omega arith))
+      (leb_same left ((get_or l i d).count + rest) (left - (get_or l i d).count) rest (λ k. omega arith) (λ k. omega arith))
 
-  pub covers_end : n ≤ i → leb left (total (drop i (take n l))) ≡ eqb left 0
-  unfolding total
-  covers_end h =
-      rw (rows_end n l i f h)
-      (same (leb left 0) (eqb left 0) (λ e. let g = leb-true left 0 e in eq-eqb left 0 (omega arith)) (λ e. let g = eqb-true left 0 e in le-leb left 0 (omega arith)))
+pub covers_end : (l : List Region) (i left : ℕ) → length l ≤ i → leb left (total (drop i l)) ≡ eqb left 0
+unfolding total
+covers_end l i left h =
+    rw (at_drop_all total l i h)
+    (same (leb left 0) (eqb left 0) (λ e. let g = leb-true left 0 e in eq-eqb left 0 (omega arith)) (λ e. let g = eqb-true left 0 e in le-leb left 0 (omega arith)))
 
 -- the affinities of VCPUs
-module _ (n : ℕ) (l : List Vcpu) (i : ℕ) (f : n ≤ length l) where
-  module _ (a : ℕ) where
-    pub taken_here : i < n → (get_or l i blank_vcpu).affinity ≡ a → taken (drop i (take n l)) a ≡ true
-    unfolding taken
-    taken_here h e = has_here (has_affinity a) blank_vcpu n l i f h (eq-eqb (get_or l i blank_vcpu).affinity a e)
-
-    pub taken_later : i < n → eqb (get_or l i blank_vcpu).affinity a ≡ false → taken (drop i (take n l)) a ≡ taken (drop (i + 1) (take n l)) a
-    unfolding taken
-    taken_later h e = has_later (has_affinity a) blank_vcpu n l i f h e
-
-    pub taken_end : n ≤ i → taken (drop i (take n l)) a ≡ false
-    unfolding taken
-    taken_end h = has_end (has_affinity a) blank_vcpu n l i f h
-
-  distinct_turn : i < n → distinct (drop i (take n l)) ≡ (not (taken (drop (i + 1) (take n l)) (get_or l i blank_vcpu).affinity) && distinct (drop (i + 1) (take n l)))
-  unfolding distinct
-  distinct_turn h = ap distinct (rows_left blank_vcpu n l i f h)
-
-  pub distinct_here : i < n → taken (drop (i + 1) (take n l)) (get_or l i blank_vcpu).affinity ≡ true → distinct (drop i (take n l)) ≡ false
-  distinct_here h t = distinct_turn h ∙ ap (λ (b : Bool). not b && distinct (drop (i + 1) (take n l))) t
-
-  pub distinct_later : i < n → taken (drop (i + 1) (take n l)) (get_or l i blank_vcpu).affinity ≡ false → distinct (drop i (take n l)) ≡ distinct (drop (i + 1) (take n l))
-  distinct_later h t = distinct_turn h ∙ ap (λ (b : Bool). not b && distinct (drop (i + 1) (take n l))) t
-
-  pub distinct_end : n ≤ i → distinct (drop i (take n l)) ≡ true
-  unfolding distinct
-  distinct_end h = ap distinct (rows_end n l i f h)
+pub taken_any : (l : List Vcpu) (a : ℕ) → list_any (has_affinity a) l ≡ taken l a
+unfolding taken
+taken_any l a = any_found (has_affinity a) l

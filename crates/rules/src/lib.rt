@@ -2,26 +2,26 @@
 #![tactic(auto)]
 
 ghost use Rattle.std.specs.Prelude.{◌≡◌, true, ◌++◌, map, ◌+◌, ◌^◌, ◌≤◌, ◌<◌, leb, take, drop};
+ghost use Rattle.std.specs.List.{list_any};
 ghost use Rattle.lists.specs.Rows.{all};
 ghost use Rattle.areas.specs.Area.{areas};
 ghost use Rattle.guest.specs.Machine.{view, Held};
 ghost use Rattle.rules.specs.Standing.{placed, run_size, region_area, small_count, Small, standing, others, total};
-ghost use Rattle.rules.specs.Rules.{irqs_ok, unset_ok, taken};
+ghost use Rattle.rules.specs.Rules.{irqs_ok, unset_ok, has_affinity, taken};
 
 use areas::{Area, Areas};
-use guest::{Frame, Guest, Regions, Vcpus};
+use guest::{Frame, Guest, Region, Regions, Vcpu, Vcpus};
 
 // The size of the single run (§3.6).
 pub fn run_size(g: Guest) -> u64
     requires { Held g }
     ensures { result ≡ run_size (view g) }
 {
-    let control = g.control;
-    let vcpus = g.vcpus;
-    if control.init == 1 {
-        return 131072 * (vcpus.count as u64);
+    if g.control.init == 1 {
+        131072 * (g.vcpus.count as u64)
+    } else {
+        131072
     }
-    131072
 }
 
 // A table with a frame's area at its end, if the frame's base is set.
@@ -30,31 +30,37 @@ fn with_frame(t: Areas, f: Frame, size: u64) -> Areas
     ensures { (areas result ≡ areas t ++ placed f size) × (result.count ≤ t.count + 1) }
 {
     if f.set == 1 {
-        let a = Area {
-            start: f.base,
-            size: size,
-        };
-        return areas::with_area(t, a);
+        areas::with_area(
+            t,
+            Area {
+                start: f.base,
+                size,
+            },
+        )
+    } else {
+        t
     }
-    t
 }
 
-// A table with the regions' areas at its end. A count below 4,096 keeps the size of each a number of 64 bits.
+// The area of a region. A count below 4,096 keeps its size a number of 64 bits.
+pub fn region_area(r: Region) -> Area
+    requires { r.count < 4096 }
+    ensures { result ≡ region_area r }
+{
+    Area {
+        start: r.base,
+        size: 131072 * r.count,
+    }
+}
+
+// A table with the regions' areas at its end.
 fn with_regions(t: Areas, r: Regions) -> Areas
     requires { (t.count + r.count < 36) × (r.count ≤ 32) × (all small_count (take r.count r.rows) ≡ true) }
     ensures { (areas result ≡ areas t ++ map region_area (take r.count r.rows)) × (result.count ≡ t.count + r.count) }
 {
-    let n = r.count;
     let mut next = t;
-    let mut i: usize = 0;
-    while i < n {
-        let row = r.rows[i];
-        let a = Area {
-            start: row.base,
-            size: 131072 * row.count,
-        };
-        next = areas::with_area(next, a);
-        i += 1;
+    for row in &r.rows[..r.count] {
+        next = areas::with_area(next, region_area(*row));
     }
     next
 }
@@ -95,18 +101,20 @@ pub fn covers(r: Regions, n: u64) -> bool
     requires { r.count ≤ 32 }
     ensures { result ≡ leb n (total (take r.count r.rows)) }
 {
-    let rows = r.count;
     let mut left = n;
-    let mut i: usize = 0;
-    while i < rows {
-        let row = r.rows[i];
+    for row in &r.rows[..r.count] {
         if left <= row.count {
             return true;
         }
-        left = left - row.count;
-        i += 1;
+        left -= row.count;
     }
     left == 0
+}
+
+fn any_has(vcpus: &[Vcpu], affinity: u64) -> bool
+    ensures { result ≡ list_any (has_affinity affinity) vcpus.now }
+{
+    vcpus.iter().any(|v| v.affinity == affinity)
 }
 
 // Whether a VCPU from the one at `from` on has the affinity.
@@ -114,16 +122,7 @@ pub fn taken_from(v: Vcpus, from: usize, affinity: u64) -> bool
     requires { (from ≤ v.count) × (v.count ≤ 64) }
     ensures { result ≡ taken (drop from (take v.count v.rows)) affinity }
 {
-    let n = v.count;
-    let mut i = from;
-    while i < n {
-        let row = v.rows[i];
-        if row.affinity == affinity {
-            return true;
-        }
-        i += 1;
-    }
-    false
+    any_has(&v.rows[..v.count][from..], affinity)
 }
 
 // Whether a VCPU has the affinity.
@@ -131,30 +130,22 @@ pub fn taken(v: Vcpus, affinity: u64) -> bool
     requires { v.count ≤ 64 }
     ensures { result ≡ taken (take v.count v.rows) affinity }
 {
-    taken_from(v, 0, affinity)
+    any_has(&v.rows[..v.count], affinity)
 }
 
 // Whether a number is an interrupt count (§3.14).
+#[tactic(auto, unfolding(crate::specs::Rules::irqs_ok))]
 pub fn irqs_ok(n: u64) -> bool
     ensures { result ≡ irqs_ok n }
 {
-    if n < 64 {
-        return false;
-    }
-    if 1024 < n {
-        return false;
-    }
-    n % 32 == 0
+    64 <= n && n <= 1024 && n % 32 == 0
 }
 
 // Whether a guest can have an interrupt count that was not set (§1.17).
 pub fn unset_ok(n: u64) -> bool
     ensures { result ≡ unset_ok n }
 {
-    if n == Guest::FRESH_IRQS {
-        return true;
-    }
-    n == Guest::FORMER_IRQS
+    n == Guest::FRESH_IRQS || n == Guest::FORMER_IRQS
 }
 
 // The first address past the address space.

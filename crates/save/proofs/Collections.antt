@@ -22,44 +22,42 @@ module _ (cs : List Collection) where
   unfolding saved_collection
   saved_past j h = rw (le-ltb j (length cs) h)
 
--- a loop that writes the rows cs: all but the last left are written
-pub record Listing (count : ℕ) (cs : List Collection) (s₀ : List ℕ) (at : ℕ) (s : List ℕ) (left : ℕ) : Type 0 where
+-- a loop that writes the rows cs: those before i are written
+pub record Listing (count : ℕ) (cs : List Collection) (s₀ : List ℕ) (at : ℕ) (s : List ℕ) (i : ℕ) : Type 0 where
   pub rows : count ≡ length cs
-  pub upto : left ≤ count
+  pub upto : i ≤ count
   pub same : length s ≡ length s₀
-  pub done : s ≡ put_at s₀ at (table_of (saved_collection cs) (count - left))
+  pub done : s ≡ put_at s₀ at (table_of (saved_collection cs) i)
 
 module _ (count : ℕ) (cs : List Collection) (s₀ : List ℕ) (at : ℕ) where
-  pub list_start : count ≡ length cs → Listing count cs s₀ at s₀ count
+  pub list_start : count ≡ length cs → Listing count cs s₀ at s₀ 0
   list_start e = record {
     rows = e;
     upto = omega arith;
     same = refl;
-    done = let z : count - count ≡ 0 = omega arith in rw z (table_none (saved_collection cs) s₀ at);
+    done = table_none (saved_collection cs) s₀ at;
   }
 
   module _ (n : ℕ) (room : Room (length s₀) at n) (few : length cs ≤ n) (s t : List ℕ) where
-    pub list_turn : (left w : ℕ) (c : Collection) → 0 < left → Listing count cs s₀ at s left → c ≡ get_or cs (count - left) no_collection
-        → w ≡ collection_entry c → length t ≡ length s → t ≡ put_at s (at + (count - left) * 8) (bytes_of 8 w) → Listing count cs s₀ at t (left - 1)
-    list_turn left w c h v e f l q =
+    pub list_turn : (i w : ℕ) (c : Collection) → i < count → Listing count cs s₀ at s i → c ≡ get_or cs i no_collection
+        → w ≡ collection_entry c → length t ≡ length s → t ≡ put_at s (at + i * 8) (bytes_of 8 w) → Listing count cs s₀ at t (i + 1)
+    list_turn i w c h v e f l q =
         let rows = v.rows in
-        let upto = v.upto in
-        let j = count - left in
-        let b : count - (left - 1) ≡ j + 1 = omega arith in
         record {
           rows = rows;
           upto = omega arith;
           same = l ∙ v.same;
           done =
-              rw b (entry_more (saved_collection cs) (collection_entry c) j s₀ s t at (omega arith)
-              (saved_row cs j (omega arith) ∙ ap collection_entry (sym e)) v.done (rw f at q));
+              entry_more (saved_collection cs) (collection_entry c) i s₀ s t at (omega arith)
+              (saved_row cs i (omega arith) ∙ ap collection_entry (sym e)) v.done (rw f at q);
         }
 
-    pub list_end : (left : ℕ) → left ≤ 0 → Listing count cs s₀ at s left → t ≡ put_at s (at + count * 8) (table_of blank (n - count))
+    pub list_end : (i : ℕ) → count ≤ i → Listing count cs s₀ at s i → t ≡ put_at s (at + count * 8) (table_of blank (n - count))
         → t ≡ put_at s₀ at (table_of (saved_collection cs) n)
-    list_end left h v q =
+    list_end i h v q =
         let rows = v.rows in
-        let e : count - left ≡ count = omega arith in
+        let upto = v.upto in
+        let e : i ≡ count = omega arith in
         let b : count + (n - count) ≡ n = omega arith in
         table_more (saved_collection cs) blank count (n - count) s₀ s t at (omega arith) (λ x _. saved_past cs (count + x) (omega arith)) (rw e at v.done) q
         ∙ ap (λ (x : ℕ). put_at s₀ at (table_of (saved_collection cs) x)) b

@@ -12,8 +12,8 @@ use Rattle.guest.specs.Machine.{Machine}
 use Rattle.mapping.specs.declared.Device.{Device}
 use Rattle.mapping.specs.declared.Event.{Event}
 use Rattle.mapping.specs.Mapped.{Mapped, device_key, no_device, no_event}
-use Rattle.tables.specs.Saved.{events_of, saved_device, saved_collection, saved_event, table_of, saved_itts, saved_memory}
-use Rattle.save.specs.Saving.{Ready, Sorted, EventsReady, IttReady, event_device, event_run, first_event, saved_itt}
+use Rattle.tables.specs.Saved.{event_id, events_of, saved_device, saved_collection, saved_event, table_of, saved_itts, saved_memory}
+use Rattle.save.specs.Saving.{Ready, Sorted, AnyEvent, ChainReady, IttReady, event_device, run_of, first_event, saved_itt}
 use Rattle.save.proofs.Rows.{row_left, all_weaker, find_most}
 use Rattle.save.proofs.Chain.{ready_weaken, ready_drop}
 use Rattle.save.proofs.Runs.{place_mono, run}
@@ -25,20 +25,25 @@ ready_above key n i (x ∷ l) r = more r.0 (ready_above key n i l (ready_weaken 
 head : {A : Type 0} {P : A → Type 0} {x : A} {l : List A} → All P (x ∷ l) → P x
 head (more p r) = p
 
+any_events : (l : List Event) → All AnyEvent l
+any_events [] = none
+any_events (e ∷ l) = more tt (any_events l)
+
 -- one ITT: its events are the run that two searches find
 module _ (es : List Event) (d : Device) (from to n : ℕ) (sorted : Sorted event_device es) (first : from ≡ first_event d.id es)
     (last : to ≡ first_event (d.id + 1) es) (size : n ≡ 2 ^ d.bits) where
-  same_run : events_of d.id es ≡ event_run es from to
+  same_run : events_of d.id es ≡ run_of es from to
   same_run = run event_device d.id es sorted ∙ rw (first, last)
 
-  pub events_ready : (start len : ℕ) → IttReady start len es d → EventsReady len (d.itt - start) n es from to
+  pub events_ready : (start len : ℕ) → IttReady start len es d → ChainReady event_id AnyEvent len (d.itt - start) n es from to
   events_ready start len r = record {
     room = rw size r.room;
     most = rw last (find_most (λ x. leb (d.id + 1) (event_device x)) no_event es);
     ready = rw (size, ← same_run) r.ready;
+    good = any_events es;
   }
 
-  pub itt_saved : (start : ℕ) (s t : List ℕ) → t ≡ put_at s (d.itt - start) (table_of (saved_event (event_run es from to)) n) → t ≡ saved_itt start es d s
+  pub itt_saved : (start : ℕ) (s t : List ℕ) → t ≡ put_at s (d.itt - start) (table_of (saved_event (run_of es from to)) n) → t ≡ saved_itt start es d s
   itt_saved start s t q = q ∙ rw (size, ← same_run)
 
 pub first_before : (from id : ℕ) (es : List Event) → from ≡ first_event id es → from ≤ first_event (id + 1) es

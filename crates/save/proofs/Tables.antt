@@ -3,10 +3,12 @@ use Prim.Native.Nat.{ℕ, zero, suc, ◌+◌, ◌-◌, ◌*◌, ◌/◌, ◌^◌
 use native.Mathlib.Nat.{add-zero, add-suc, zero-div}
 use native.Mathlib.Omega.{arith}
 use mathlib.Core.Path.{◌≡◌, refl, sym, ap, ◌∙◌}
-use mathlib.Core.List.{List, ◌++◌, append-nil, append_assoc}
-use lib.ListN.{length, set, length-append, length-set}
+use mathlib.Core.List.{List, ◌∷◌, ◌++◌, append-nil, append_assoc}
+use lib.ListN.{length, take, drop, replicate, length-append, length-drop, length-replicate}
+use lib.Seq.{drop-drop, length-take-le}
+use borrow.Rule.Slice.PartMut.{mid_of, put_mid}
 use Rattle.words.specs.Words.{bytes_of, put_at}
-use Rattle.words.proofs.Laws.{length-bytes_of, bytes_of-add, put_at-none, put_one, put_two, put_next}
+use Rattle.words.proofs.Laws.{length-bytes_of, bytes_of-add, put_at-none, put_next}
 use Rattle.tables.specs.Saved.{table_of}
 use Rattle.save.specs.Saving.{blank}
 
@@ -58,45 +60,30 @@ blanks_zeros (suc n) =
     let e : suc n * 8 ≡ n * 8 + 8 = omega arith in
     rw (e, bytes_of-add (n * 8) 8 0, zero_rest (n * 8), blanks_zeros n)
 
--- a loop that clears the bytes from index first up to index end: those below i are zeros
-pub record Clearing (s₀ : List ℕ) (first end : ℕ) (s : List ℕ) (i : ℕ) : Type 0 where
-  pub low : first ≤ i
-  pub upto : i ≤ end
-  pub same : length s ≡ length s₀
-  pub done : s ≡ put_at s₀ first (bytes_of (i - first) 0)
+zeros : (n : ℕ) → bytes_of n 0 ≡ replicate n 0
+unfolding bytes_of
+zeros zero = refl
+zeros (suc n) = ap (λ (r : List ℕ). 0 ∷ r) (zeros n)
 
-module _ (s₀ : List ℕ) (first end : ℕ) where
-  pub clear_start : first ≤ end → Clearing s₀ first end s₀ first
-  unfolding bytes_of
-  clear_start h = record {
-    low = omega arith;
-    upto = h;
-    same = refl;
-    done = let z : first - first ≡ 0 = omega arith in rw z (sym (put_at-none s₀ first));
-  }
+-- bytes put over a part that they are as long as
+put_part : (s ys : List ℕ) (a k : ℕ) → length ys ≡ k → put_mid a k s ys ≡ put_at s a ys
+unfolding put_at
+put_part s ys a k l =
+    ap (λ (r : List ℕ). take a s ++ (ys ++ r)) (drop-drop k a s ∙ ap (λ (m : ℕ). drop (a + m) s) (sym l)) ∙ sym (append_assoc (take a s) ys _)
 
-  pub clear_turn : (s : List ℕ) (i : ℕ) → end ≤ length s₀ → Clearing s₀ first end s i → i < end → Clearing s₀ first end (set s i 0) (i + 1)
-  clear_turn s i fits v h =
-      let low = v.low in
-      let same = v.same in
-      let a : first + (i - first) ≡ i = omega arith in
-      let b : i + 1 - first ≡ i - first + 1 = omega arith in
-      record {
-        low = omega arith;
-        upto = omega arith;
-        same = length-set s i 0 ∙ same;
-        done =
-            rw b (put_two s₀ s (set s i 0) first (i - first) 1 0 (omega arith) v.done (rw (a, zero_rest (i - first)) (put_one s i 0 (omega arith))));
-      }
-
--- from entry from up to entry to
-pub blank_end : (s₀ : List ℕ) (at from to : ℕ) (s : List ℕ) (i : ℕ) → Clearing s₀ (at + from * 8) (at + to * 8) s i → at + to * 8 ≤ i
-    → s ≡ put_at s₀ (at + from * 8) (table_of blank (to - from))
-blank_end s₀ at from to s i v h =
-    let low = v.low in
-    let upto = v.upto in
-    let e : i - (at + from * 8) ≡ (to - from) * 8 = omega arith in
-    v.done ∙ rw (e, blanks_zeros (to - from))
+-- zeros put over the part from entry from up to entry to
+pub blank_filled : (s ys : List ℕ) (at from to : ℕ) → from ≤ to → at + to * 8 ≤ length s
+    → ys ≡ replicate (length (mid_of (at + from * 8) (at + to * 8 - (at + from * 8)) s)) 0
+    → put_mid (at + from * 8) (at + to * 8 - (at + from * 8)) s ys ≡ put_at s (at + from * 8) (table_of blank (to - from))
+blank_filled s ys at from to h fits e =
+    let a = at + from * 8 in
+    let k = at + to * 8 - a in
+    let d = length-drop a s in
+    let l : length (mid_of a k s) ≡ k = length-take-le k (drop a s) (omega arith) in
+    let n : k ≡ (to - from) * 8 = omega arith in
+    let m : length ys ≡ k = ap length e ∙ length-replicate _ 0 ∙ l in
+    let blanks : table_of blank (to - from) ≡ replicate ((to - from) * 8) 0 = blanks_zeros (to - from) ∙ zeros ((to - from) * 8) in
+    rw (put_part s ys a k m, blanks, ← n, ← l) (ap (put_at s a) e)
 
 -- blank entries, and a word after them
 pub blanks_word : (s t u : List ℕ) (at from id word : ℕ) → from ≤ id → at + id * 8 ≤ length s

@@ -62,14 +62,20 @@ pub record CollectionsReady (len at n : ℕ) (cs : List Collection) : Type 0 whe
   pub few : length cs ≤ n
   pub good : All CollectionGood cs
 
--- Inner: the events from index from up to index to
-abbrev pub event_run : List Event → ℕ → ℕ → List Event
-event_run es from to = drop from (take to es)
+-- Inner: every event fits its entry
+abbrev pub AnyEvent : Event → Type 0
+AnyEvent e = Unit {0}
 
-pub record EventsReady (len at n : ℕ) (es : List Event) (from to : ℕ) : Type 0 where
+-- Inner: the rows from index from up to index to
+abbrev pub run_of : {A : Type 0} → List A → ℕ → ℕ → List A
+run_of l from to = drop from (take to l)
+
+-- Inner: a chained table of n entries from index at has room for those of the rows from index from up to index to
+pub record ChainReady {A : Type 0} (key : A → ℕ) (Good : A → Type 0) (len at n : ℕ) (l : List A) (from to : ℕ) : Type 0 where
   pub room : Room len at n
-  pub most : to ≤ length es
-  pub ready : Ready event_id n 0 (event_run es from to)
+  pub most : to ≤ length l
+  pub ready : Ready key n 0 (run_of l from to)
+  pub good : All Good l
 
 -- Inner: what events are sorted by
 abbrev pub event_device : Event → ℕ

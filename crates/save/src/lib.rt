@@ -2,15 +2,16 @@
 // one, so that no table of them is copied.
 #![tactic(auto)]
 
-ghost use Rattle.std.specs.Prelude.{◌≡◌, ◌++◌, ◌+◌, ◌-◌, ◌*◌, ◌^◌, ◌≤◌, ◌<◌, length};
+ghost use Rattle.std.specs.Prelude.{ℕ, List, get_or, ◌≡◌, ◌++◌, ◌+◌, ◌-◌, ◌*◌, ◌^◌, ◌≤◌, ◌<◌, length};
 ghost use Rattle.words.specs.Words.{bytes_of, put_at};
 ghost use Rattle.layout.specs.Layout.{decode};
 ghost use Rattle.maplayout.specs.MapLayout.{decode_map, Counted};
-ghost use Rattle.chains.specs.Slots.{capped};
+ghost use Rattle.mapping.specs.Mapped.{device_key, no_device, no_event};
+ghost use Rattle.chains.specs.Slots.{Cap, capped, uncapped};
 ghost use Rattle.tables.specs.Bytes.{device_cap};
-ghost use Rattle.tables.specs.Saved.{table_of, device_entry, event_entry, saved_device, saved_collection, saved_event, saved_itts, saved_memory};
-ghost use Rattle.save.specs.Saving.{blank, row_after, collection_entry, event_run, first_event, saved_itt};
-ghost use Rattle.save.specs.Saving.{DeviceGood, CollectionGood, DevicesReady, CollectionsReady, EventsReady};
+ghost use Rattle.tables.specs.Saved.{table_of, device_entry, event_entry, event_id, chain_word, saved_device, saved_collection, saved_event, saved_itts, saved_memory};
+ghost use Rattle.save.specs.Saving.{blank, row_after, collection_entry, run_of, first_event, saved_itt};
+ghost use Rattle.save.specs.Saving.{DeviceGood, CollectionGood, AnyEvent, ChainReady, DevicesReady, CollectionsReady};
 ghost use Rattle.save.specs.Saving.{IttCursor, IttsReady, Saveable};
 
 // The cap of §7.2: the largest next that a device's entry has room for.
@@ -24,18 +25,12 @@ fn put_entry(mem: &mut [u8], at: usize, i: usize, word: u64)
     words::put64(mem, at + i * 8, word);
 }
 
-// Blank entries, from entry `from` up to entry `to`: no old byte stays in them. The loop goes byte by byte, since the compiler makes one
-// memset of that, and of a loop of words it does not.
+// Blank entries, from entry `from` up to entry `to`: no old byte stays in them.
 fn write_blanks(mem: &mut [u8], at: usize, from: usize, to: usize)
     requires { (from ≤ to) × (at + to * 8 ≤ length mem.old) }
     ensures { mem.new ≡ put_at mem.old (at + from * 8) (table_of blank (to - from)) }
 {
-    let end = at + to * 8;
-    let mut i = at + from * 8;
-    while i < end {
-        mem[i] = 0;
-        i += 1;
-    }
+    mem[at + from * 8..at + to * 8].fill(0);
 }
 
 // Blank entries, from entry `from` up to an ID's, and the ID's word.
@@ -52,64 +47,137 @@ fn row_after(j: usize, to: usize) -> usize
     requires { j < to }
     ensures { (result ≡ row_after j to) × (result < to) }
 {
-    let next = j + 1;
-    if next < to {
-        return next;
-    }
-    j
+    (j + 1).min(to - 1)
 }
 
-// The distance from an ID to the following row's: 0 from a last row to itself.
-fn distance(from: u64, to: u64) -> u64
-    ensures { result ≡ to - from }
-{
-    if to <= from {
-        return 0;
-    }
-    to - from
-}
-
-// The same as a device's entry holds it, at most the cap. An event's entry has room for every distance in an ITT.
+// The distance from a device's ID to the following device's as its entry holds it, at most the cap: 0 from a last row to itself. An
+// event's entry has room for every distance in an ITT.
 fn device_next(from: u64, to: u64) -> u64
     ensures { result ≡ capped device_cap (to - from) }
 {
-    let next = distance(from, to);
-    if next < DEVICE_CAP {
-        return next;
-    }
-    DEVICE_CAP
+    to.saturating_sub(from).min(DEVICE_CAP)
 }
 
-fn device_word(d: mapping::Device, next: u64) -> u64
-    requires { (DeviceGood d) × (next < 2 ^ 14) }
-    ensures { result ≡ device_entry d next }
+// The rows that a chained table is written of (§7.2): how one is read, the entry that its ID numbers, and its word, with the distance
+// to the ID of the row that follows.
+trait Chained {
+    type Row: Copy;
+
+    ghost rows: { List ℕ → List Self.Row };
+
+    ghost none: { Self.Row };
+
+    ghost key: { Self.Row → ℕ };
+
+    ghost word: { Self.Row → ℕ → ℕ };
+
+    ghost cap: { Cap };
+
+    ghost Good: { Self.Row → Type 0 };
+
+    fn row(s: &[u8], j: usize) -> Self::Row
+        requires { Counted s.now × (j < length (rows s.now)) }
+        ensures { result ≡ get_or (rows s.now) j none };
+
+    fn id(row: Self::Row) -> usize
+        ensures { result ≡ key row };
+
+    fn entry(row: Self::Row, following: Self::Row) -> u64
+        requires { Good row }
+        ensures { result ≡ word row (capped cap (key following - key row)) };
+}
+
+// A chained table, `n` entries from index `at`: a word for each of the rows from `from` up to `to`, blanks before, between and after
+// them. Entries below `i` are written, and rows before `j`.
+fn write_chain<C: Chained>(s: &[u8], mem: &mut [u8], at: usize, n: usize, from: usize, to: usize)
+    requires { Counted s.now × ChainReady C.key C.Good (length mem.old) at n (C.rows s.now) from to }
+    ensures { mem.new ≡ put_at mem.old at (table_of (chain_word C.key C.word C.cap (run_of (C.rows s.now) from to)) n) }
 {
-    entries::device_word(entries::DeviceEntry {
-        next: next,
-        itt: d.itt,
-        bits: d.bits,
-    })
+    let mut i: usize = 0;
+    for j in from..to {
+        let row = C::row(s, j);
+        let following = C::row(s, row_after(j, to));
+        let id = C::id(row);
+        write_next(mem, at, i, id, C::entry(row, following));
+        i = id + 1;
+    }
+    write_blanks(mem, at, i, n);
 }
 
-// The device table, `n` entries from index `at`: a word for each device, blanks before, between and after them. Entries below `i`
-// are written, and rows before `j`.
+struct Devices;
+
+impl Chained for Devices {
+    type Row = mapping::Device;
+
+    ghost rows = { λ s. (decode_map s).devices };
+
+    ghost none = { no_device };
+
+    ghost key = { device_key };
+
+    ghost word = { device_entry };
+
+    ghost cap = { device_cap };
+
+    ghost Good = { DeviceGood };
+
+    fn row(s: &[u8], j: usize) -> mapping::Device {
+        maplayout::device_at(s, j)
+    }
+
+    fn id(row: mapping::Device) -> usize {
+        row.id as usize
+    }
+
+    fn entry(row: mapping::Device, following: mapping::Device) -> u64 {
+        entries::device_word(entries::DeviceEntry {
+            next: device_next(row.id, following.id),
+            itt: row.itt,
+            bits: row.bits,
+        })
+    }
+}
+
+struct Events;
+
+impl Chained for Events {
+    type Row = mapping::Event;
+
+    ghost rows = { λ s. (decode_map s).events };
+
+    ghost none = { no_event };
+
+    ghost key = { event_id };
+
+    ghost word = { event_entry };
+
+    ghost cap = { uncapped };
+
+    ghost Good = { AnyEvent };
+
+    fn row(s: &[u8], j: usize) -> mapping::Event {
+        maplayout::event_at(s, j)
+    }
+
+    fn id(row: mapping::Event) -> usize {
+        row.event as usize
+    }
+
+    fn entry(row: mapping::Event, following: mapping::Event) -> u64 {
+        entries::event_word(entries::EventEntry {
+            next: (following.event as u64).saturating_sub(row.event as u64),
+            lpi: row.lpi as u64,
+            icid: row.icid as u64,
+        })
+    }
+}
+
+// The device table, `n` entries from index `at`.
 fn write_devices(s: &[u8], mem: &mut [u8], at: usize, n: usize)
     requires { Counted s.now × DevicesReady (length mem.old) at n (decode_map s.now).devices }
     ensures { mem.new ≡ put_at mem.old at (table_of (saved_device (decode_map s.now).devices) n) }
 {
-    let count = maplayout::device_count(s);
-    let mut i: usize = 0;
-    let mut j: usize = 0;
-    while j < count {
-        let d = maplayout::device_at(s, j);
-        let following = maplayout::device_at(s, row_after(j, count));
-        let past = d.id + 1; // the entry after this device's
-        let next = device_next(d.id, following.id);
-        write_next(mem, at, i, d.id as usize, device_word(d, next));
-        i = past as usize;
-        j += 1; // to the following device
-    }
-    write_blanks(mem, at, i, n);
+    write_chain::<Devices>(s, mem, at, n, 0, maplayout::device_count(s));
 }
 
 fn collection_word(c: mapping::Collection) -> u64
@@ -123,50 +191,17 @@ fn collection_word(c: mapping::Collection) -> u64
 }
 
 // The collection table, `n` entries from index `at`: the collections in rising ICID from entry 0, and blanks after them. Row `i` is
-// entry `i`, and `left` rows come after it.
+// entry `i`.
 fn write_collections(s: &[u8], mem: &mut [u8], at: usize, n: usize)
     requires { Counted s.now × CollectionsReady (length mem.old) at n (decode_map s.now).collections }
     ensures { mem.new ≡ put_at mem.old at (table_of (saved_collection (decode_map s.now).collections) n) }
 {
     let count = maplayout::collection_count(s);
-    let mut left = count;
-    while 0 < left {
-        let i = count - left;
-        left -= 1;
+    for i in 0..count {
         let c = maplayout::collection_at(s, i);
         put_entry(mem, at, i, collection_word(c));
     }
     write_blanks(mem, at, count, n);
-}
-
-fn event_word(e: mapping::Event, next: u64) -> u64
-    requires { next < 2 ^ 16 }
-    ensures { result ≡ event_entry e next }
-{
-    entries::event_word(entries::EventEntry {
-        next: next,
-        lpi: e.lpi as u64,
-        icid: e.icid as u64,
-    })
-}
-
-// An ITT, `n` entries from index `at`: a word for each event of the rows from `from` up to `to`, blanks before, between and after them.
-fn write_events(s: &[u8], mem: &mut [u8], at: usize, n: usize, from: usize, to: usize)
-    requires { Counted s.now × EventsReady (length mem.old) at n (decode_map s.now).events from to }
-    ensures { mem.new ≡ put_at mem.old at (table_of (saved_event (event_run (decode_map s.now).events from to)) n) }
-{
-    let mut i: usize = 0;
-    let mut j = from;
-    while j < to {
-        let e = maplayout::event_at(s, j);
-        let following = maplayout::event_at(s, row_after(j, to));
-        let id = e.event as usize;
-        let next = distance(e.event as u64, following.event as u64);
-        write_next(mem, at, i, id, event_word(e, next));
-        i = id + 1;
-        j += 1;
-    }
-    write_blanks(mem, at, i, n);
 }
 
 // The first row of events whose device is not below `id`, or the number of events. It is not before row `from`, so that a search
@@ -176,13 +211,11 @@ fn first_event(s: &[u8], from: usize, id: u64) -> usize
     ensures { result ≡ first_event id (decode_map s.now).events }
 {
     let n = maplayout::event_count(s);
-    let mut j = from;
-    while j < n {
+    for j in from..n {
         let e = maplayout::event_at(s, j);
         if id <= e.device as u64 {
             return j;
         }
-        j += 1;
     }
     n
 }
@@ -203,7 +236,7 @@ fn write_itt(s: &[u8], mem: &mut [u8], start: u64, d: mapping::Device, j: usize)
     let from = first_event(s, j, d.id);
     let to = first_event(s, from, d.id + 1);
     let at = (d.itt - start) as usize;
-    write_events(s, mem, at, itt_entries(d.bits), from, to);
+    write_chain::<Events>(s, mem, at, itt_entries(d.bits), from, to);
     to
 }
 
@@ -213,12 +246,10 @@ fn write_itts(s: &[u8], mem: &mut [u8], start: u64)
     ensures { mem.new ≡ saved_itts start (decode_map s.now).devices (decode_map s.now).events mem.old }
 {
     let n = maplayout::device_count(s);
-    let mut i: usize = 0;
     let mut j: usize = 0;
-    while i < n {
+    for i in 0..n {
         let d = maplayout::device_at(s, i);
         j = write_itt(s, mem, start, d, j);
-        i += 1;
     }
 }
 

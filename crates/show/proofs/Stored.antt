@@ -6,6 +6,9 @@ use mathlib.Core.Logic.{inl, inr}
 use mathlib.Core.List.{List}
 use lib.ListN.{length}
 use borrow.Author.Tests.{le-leb}
+use Rattle.std.specs.Prelude.{Result, ⊤}
+use Rattle.answers.specs.declared.Errno.{Errno}
+use Rattle.guest.specs.Returned as returned
 use Rattle.lists.proofs.All.{to_all}
 use Rattle.layout.specs.Layout.{decode}
 use Rattle.mapping.specs.Mapped.{Mapped}
@@ -25,7 +28,7 @@ errno_positive e (inl x) = omega arith
 errno_positive e (inr (inl x)) = omega arith
 errno_positive e (inr (inr x)) = omega arith
 
-module _ (t mem : List ℕ) (a : Restorable t (length mem)) (r : ℕ) (left : List ℕ) (d : Restores t (restored (decode t) mem) r left) where
+module _ (t mem : List ℕ) (a : Restorable t (length mem)) (r : Result ⊤ Errno) (left : List ℕ) (d : Restores t (restored (decode t) mem) r left) where
   read_over : (k : Mapped) → restored (decode t) mem ≡ found k → Over t k left
   read_over k x =
       let o = restored_ok (decode t) mem a.rules a.placed a.memory k x in
@@ -39,7 +42,7 @@ module _ (t mem : List ℕ) (a : Restorable t (length mem)) (r : ℕ) (left : Li
         is = d.stored k x;
       }
 
-  pub left_over : r ≡ 0 → (k : Mapped) × (restored (decode t) mem ≡ found k) × Over t k left
+  pub left_over : returned.fault r ≡ 0 → (k : Mapped) × (restored (decode t) mem ≡ found k) × Over t k left
   left_over z = by (restored (decode t) mem) refl
     where
       by : (o : Out) → restored (decode t) mem ≡ o → (k : Mapped) × (restored (decode t) mem ≡ found k) × Over t k left

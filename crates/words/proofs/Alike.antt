@@ -1,17 +1,13 @@
 -- Bytes that agree before an index, or from one on, are read alike there.
 use Prim.Native.Nat.{ℕ, zero, suc, ◌+◌, ◌-◌, ◌*◌, ◌≤◌}
-use native.Mathlib.Nat.{zero-add, suc-add, suc-mul, add_comm}
+use native.Mathlib.Nat.{suc-mul, add_comm}
 use native.Mathlib.Omega.{arith}
 use mathlib.Core.Path.{◌≡◌, refl, sym, ap, ap₂, ◌∙◌}
-use mathlib.Core.List.{List, [], ◌∷◌, ◌++◌, append_assoc}
+use mathlib.Core.List.{List, ◌∷◌, ◌++◌, append_assoc}
 use lib.ListN.{length, take, drop}
-use lib.Seq.{take-nil, take-take, drop-drop, take-append-le, length-take-le}
+use lib.Seq.{take-take, drop-drop, take-append-le, length-take-le}
+use Rattle.std.proofs.lemmas.List.{drop-take}
 use Rattle.words.specs.Words.{le, le_at, put_at, rows_of}
-
-drop_take : (a b : ℕ) (l : List ℕ) → drop a (take (a + b) l) ≡ take b (drop a l)
-drop_take zero b l = rw zero-add
-drop_take (suc a) b [] = rw (suc-add, take-nil)
-drop_take (suc a) b (x ∷ l) = rw suc-add (drop_take a b l)
 
 -- before the bytes that were put: as it was
 pub take-put_at-before : (s : List ℕ) (at : ℕ) (bs : List ℕ) (k : ℕ) → k ≤ at → at ≤ length s → take k (put_at s at bs) ≡ take k s
@@ -30,7 +26,7 @@ module _ {A : Type 0} (p : List ℕ → A) (z : ℕ) where
       let e : suc n * z ≡ z + n * z = suc-mul n z ∙ add_comm (n * z) z in
       ap₂ (λ (t : List ℕ) (u : List ℕ). p t ∷ rows_of p z n u)
       (take-take z (suc n * z) s (omega arith))
-      (ap (λ (m : ℕ). drop z (take m s)) e ∙ drop_take z (n * z) s)
+      (ap (λ (m : ℕ). drop z (take m s)) e ∙ drop-take z (n * z) s)
       ∙ ap (λ (r : List A). p (take z s) ∷ r) (rows_of-front n (drop z s))
 
 -- two lists of bytes that agree before index b
@@ -39,7 +35,7 @@ module _ (s t : List ℕ) (b : ℕ) (same : take b s ≡ take b t) where
   part_alike at n h = sym (inside s) ∙ ap (λ (x : List ℕ). drop at (take (at + n) x)) same ∙ inside t
     where
       inside : (l : List ℕ) → drop at (take (at + n) (take b l)) ≡ take n (drop at l)
-      inside l = ap (drop at) (take-take (at + n) b l h) ∙ drop_take at n l
+      inside l = ap (drop at) (take-take (at + n) b l h) ∙ drop-take at n l
 
   pub le_at-alike : (at n : ℕ) → at + n ≤ b → le_at s at n ≡ le_at t at n
   unfolding le_at

@@ -1,13 +1,18 @@
 -- Laws of little endian numbers and of tables of rows.
 use Prim.Native.Nat.{ℕ, zero, suc, ◌+◌, ◌-◌, ◌*◌, ◌/◌, ◌%◌, ◌^◌, ◌≤◌, ◌<◌}
-use native.Mathlib.Nat.{zero-add, suc-add, add-zero, mul_assoc, add-mul, add_assoc, mod-add-div', pow-suc, pow-succ', div-div-eq-div-mul, div-one, div-lt_iff_lt-mul}
+use native.Mathlib.Nat.{zero-add, suc-add, add-zero, mul_assoc, add-mul, add_assoc, add_comm, mul-le-mul_right, mod-add-div', pow-suc, pow-succ', div-div-eq-div-mul, div-one, div-lt_iff_lt-mul}
 use native.Mathlib.Numerals.{add-one}
 use native.Mathlib.Omega.{arith}
 use mathlib.Core.Path.{◌≡◌, refl, sym, ap, ◌∙◌}
 use mathlib.Core.List.{List, [], ◌∷◌, ◌++◌, append_assoc, append-nil}
 use lib.ListN.{length, get_or, set, take, drop, length-append, length-take, length-drop, take-append-drop}
-use lib.Seq.{take_all, take-suc-set, take-nil, take-take, set_split, take-add, drop-drop, drop-cons, length-take-le, take_at, drop_at, drop-append-add}
+use lib.Seq.{take_all, take-suc-set, take-take, set_split, take-add, drop-drop, drop-cons, length-take-le, take_at, drop_at, drop-append-add}
 use lib.Dec.{lit<}
+use Rattle.std.proofs.lemmas.List.{drop-take}
+use Rattle.std.proofs.lemmas.Nat.{pow-add, or_comm, or_shifted}
+use Rattle.std.specs.Int.Bits.{bit_or}
+use lib.Pow.{shl_exact}
+use borrow.Rule.Slice.PartMut.{put_mid}
 use Rattle.words.specs.Words.{le, le_at, bytes_of, put_at, Read}
 
 -- ---- one number
@@ -47,6 +52,34 @@ le-bytes_of zero v h = omega arith
 le-bytes_of (suc n) v h =
     rw (le-bytes_of n (v / 256) ((div-lt_iff_lt-mul (lit< tt)).1 (rw (← pow-suc 256 n) h))) (mod-add-div' v 256)
 
+pub read_one : (s : List ℕ) (at : ℕ) → at + 1 ≤ length s → get_or s at 0 < 256 → Read s at 1 (get_or s at 0)
+unfolding le_at le
+read_one s at h f = let l : at < length s = omega arith in record { is = rw (drop-cons s at 0 l) (omega arith); fits = f }
+
+-- a loop that reads a number: no byte, and one byte more
+pub read_none : (s : List ℕ) (at : ℕ) → Read s at 0 0
+unfolding le_at le
+read_none s at = record { is = refl; fits = lit< tt }
+
+bytes_bits : (i : ℕ) → 2 ^ (8 * i) ≡ 256 ^ i
+bytes_bits zero = refl
+bytes_bits (suc i) =
+    let e : 8 * suc i ≡ 8 * i + 8 = omega arith in
+    ap (λ (k : ℕ). 2 ^ k) e ∙ pow-add 2 (8 * i) 8 ∙ ap (λ (k : ℕ). k * 256) (bytes_bits i) ∙ sym (pow-suc 256 i)
+
+pub read_more : (s : List ℕ) (at i v : ℕ) → at + i < length s → get_or s (at + i) 0 < 256 → i < 8 → Read s at i v
+    → Read s at (i + 1) (bit_or v (get_or s (at + i) 0 * 2 ^ (8 * i) % 2 ^ 64))
+read_more s at i v h f w r =
+    let b = get_or s (at + i) 0 in
+    let e = bytes_bits i in
+    let low : v < 2 ^ (8 * i) = rw e r.fits in
+    let m : b * 256 ^ i ≤ 255 * 256 ^ i = mul-le-mul_right (256 ^ i) (omega (arith, f)) in
+    let top : v + b * 256 ^ i < 256 ^ (i + 1) = rw (add-one, pow-suc 256 i) (omega (arith, m, r.fits)) in
+    let q : bit_or v (b * 2 ^ (8 * i) % 2 ^ 64) ≡ v + b * 256 ^ i =
+    ap (bit_or v) (shl_exact 8 (8 * i) 64 f (omega (arith, w))) ∙ or_comm v (b * 2 ^ (8 * i)) ∙ or_shifted b (8 * i) v low
+    ∙ ap (λ (k : ℕ). b * k + v) e ∙ add_comm (b * 256 ^ i) v in
+    rw q (read_two s at i 1 v b (omega (arith, h)) r (read_one s (at + i) (omega (arith, h)) f) top)
+
 -- ---- stores
 
 pub length-put_at : (s : List ℕ) (at : ℕ) (bs : List ℕ) → at + length bs ≤ length s → length (put_at s at bs) ≡ length s
@@ -62,10 +95,6 @@ put_at-two s at xs ys h =
     ∙ drop-append-add (take at s ++ xs) (drop (at + length xs) s) (length ys)
     ∙ drop-drop (length ys) (at + length xs) s in
     rw (e, take_at (take at s ++ xs) (drop (at + length xs) s) (at + length xs) l, length-append, add_assoc, append_assoc (take at s) xs ys)
-
-pub read_one : (s : List ℕ) (at : ℕ) → at + 1 ≤ length s → get_or s at 0 < 256 → Read s at 1 (get_or s at 0)
-unfolding le_at le
-read_one s at h f = let l : at < length s = omega arith in record { is = rw (drop-cons s at 0 l) (omega arith); fits = f }
 
 pub put_one : (s : List ℕ) (at v : ℕ) → at + 1 ≤ length s → set s at (v % 256) ≡ put_at s at (bytes_of 1 v)
 unfolding put_at bytes_of
@@ -86,6 +115,14 @@ pub le_at-drop : (s : List ℕ) (at k n : ℕ) → le_at (drop at s) k n ≡ le_
 unfolding le_at
 le_at-drop s at k n = rw drop-drop
 
+-- a part of a list of bytes that was filled with the bytes of a number
+pub put_part : (s ys : List ℕ) (at n k m v : ℕ) → ys ≡ bytes_of m v → m ≡ n → k ≡ n → put_mid at k s ys ≡ put_at s at (bytes_of n v)
+unfolding put_at
+put_part s ys at n k m v e hm hk =
+    ap (λ (x : List ℕ). take at s ++ (x ++ drop k (drop at s))) (e ∙ ap (λ (j : ℕ). bytes_of j v) hm)
+    ∙ sym (append_assoc (take at s) (bytes_of n v) (drop k (drop at s)))
+    ∙ ap (λ (x : List ℕ). take at s ++ bytes_of n v ++ x) (drop-drop k at s ∙ ap (λ (j : ℕ). drop (at + j) s) (hk ∙ sym (length-bytes_of n v)))
+
 -- one store right after another
 pub put_next : (s t u : List ℕ) (at n : ℕ) (xs ys : List ℕ) → length xs ≡ n → at + n ≤ length s → t ≡ put_at s at xs → u ≡ put_at t (at + n) ys → u ≡ put_at s at (xs ++ ys)
 put_next s t u at n xs ys l h p q =
@@ -103,13 +140,8 @@ unfolding le_at
 le_at-in s at z off n h =
     let e : off + (z - off) ≡ z = omega arith in
     ap (λ (k : ℕ). le (take n (drop off (take k (drop at s))))) (sym e)
-    ∙ ap (λ (t : List ℕ). le (take n t)) (drop_take off (z - off) (drop at s))
+    ∙ ap (λ (t : List ℕ). le (take n t)) (drop-take off (z - off) (drop at s))
     ∙ ap le (take-take n (z - off) (drop off (drop at s)) (omega arith) ∙ ap (take n) (drop-drop off at s))
-  where
-    drop_take : (a b : ℕ) (l : List ℕ) → drop a (take (a + b) l) ≡ take b (drop a l)
-    drop_take zero b l = rw zero-add
-    drop_take (suc a) b [] = rw (suc-add, take-nil)
-    drop_take (suc a) b (x ∷ l) = rw suc-add (drop_take a b l)
 
 -- from where the bytes were put: they, and what follows them
 pub drop-put_at-here : (s : List ℕ) (at : ℕ) (bs : List ℕ) → at ≤ length s → drop at (put_at s at bs) ≡ bs ++ drop (at + length bs) s

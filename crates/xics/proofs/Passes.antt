@@ -10,13 +10,10 @@ use borrow.Author.Tests.{leb-false, eqb-true, not-false}
 use Rattle.areas.proofs.Tests.{or_left, or_right}
 use Rattle.lists.specs.Rows.{choose}
 use Rattle.xicswords.specs.Word.{paired}
-use Rattle.xicsrows.specs.XicsLayout.{server, source, Row, table}
+use Rattle.xicsrows.specs.XicsLayout.{Row}
 use Rattle.xicsrows.specs.Registered.{registered}
 use Rattle.xicsrules.specs.Sound.{takes}
 use Rattle.xics.specs.Faults.{server_fault, source_fault, word_fault, source_word_fault, server_word_fault}
-use Rattle.xics.specs.declared.XicsChange.{XicsChange}
-use Rattle.xics.specs.declared.XicsChange.TheVariants.{AddServer, AddSource, SetSource, SetServer}
-use Rattle.xics.specs.Calls.{change_fault}
 
 -- a refusal that does not apply, and none after it
 passed : (b : Bool) (e x : ℕ) → 0 < e → choose b e x ≡ 0 → (b ≡ false) × (x ≡ 0)
@@ -60,34 +57,7 @@ new_source_lem n d servers sources e =
       room = leb-false _ _ r.0;
     }
 
--- §14.11: a get of the word of n
-pub record Asked (n width : ℕ) (rows : List Row) : Type 0 where
-  pub wide : width ≡ 8
-  pub known : registered n rows ≡ true
-
-pub word_passes : (n width : ℕ) (rows : List Row) → word_fault n width rows ≡ 0 → Asked n width rows
-unfolding word_fault
-word_passes n width rows e =
-    let a = passed (not (eqb width 8)) 14 _ (omega arith) e in
-    let b = passed (not (registered n rows)) 2 0 (omega arith) a.1 in
-    record { wide = eqb-true _ _ (not-false _ a.0); known = not-false _ b.0 }
-
--- §14.9, §14.10: a set tests what a get does, and then the word
-then : (a b : Bool) (x : ℕ) → choose a 14 (choose b 2 x) ≡ choose (eqb (choose a 14 (choose b 2 0)) 0) x (choose a 14 (choose b 2 0))
-then true b x = refl
-then false true x = refl
-then false false x = refl
-
-pub source_word_by : (n width w : ℕ) (servers sources : List Row)
-    → source_word_fault n width w servers sources ≡ choose (eqb (word_fault n width sources) 0) (choose (not (takes servers w)) 22 0) (word_fault n width sources)
-unfolding source_word_fault word_fault
-source_word_by n width w servers sources = then (not (eqb width 8)) (not (registered n sources)) (choose (not (takes servers w)) 22 0)
-
-pub server_word_by : (n width v : ℕ) (servers : List Row)
-    → server_word_fault n width v servers ≡ choose (eqb (word_fault n width servers) 0) (choose (not (paired v)) 22 0) (word_fault n width servers)
-unfolding server_word_fault word_fault
-server_word_by n width v servers = then (not (eqb width 8)) (not (registered n servers)) (choose (not (paired v)) 22 0)
-
+-- §14.9: the word of a source, and §14.10: that of a server
 pub record SourceWord (n width w : ℕ) (servers sources : List Row) : Type 0 where
   pub wide : width ≡ 8
   pub known : registered n sources ≡ true
@@ -122,26 +92,3 @@ either_small false e x h g = g
 pub word_small : (n width : ℕ) (rows : List Row) → word_fault n width rows < 4096
 unfolding word_fault
 word_small n width rows = either_small (not (eqb width 8)) 14 _ (omega arith) (either_small (not (registered n rows)) 2 0 (omega arith) (omega arith))
-
-change_small : (c : XicsChange) (s : List ℕ) → change_fault c s < 4096
-unfolding server_fault source_fault source_word_fault server_word_fault
-change_small (AddServer n) s =
-    either_small (leb (2 ^ 32) n) 22 _ (omega arith)
-    (either_small (registered n (table server s)) 17 _ (omega arith)
-    (either_small (leb 64 (length (table server s))) 12 0 (omega arith) (omega arith)))
-change_small (AddSource n d) s =
-    either_small (leb (2 ^ 20) n || leb (2 ^ 32) d) 22 _ (omega arith)
-    (either_small (registered n (table source s)) 17 _ (omega arith)
-    (either_small (not (registered d (table server s))) 2 _ (omega arith)
-    (either_small (leb 64 (length (table source s))) 12 0 (omega arith) (omega arith))))
-change_small (SetSource n width w) s =
-    either_small (not (eqb width 8)) 14 _ (omega arith)
-    (either_small (not (registered n (table source s))) 2 _ (omega arith)
-    (either_small (not (takes (table server s) w)) 22 0 (omega arith) (omega arith)))
-change_small (SetServer n width v) s =
-    either_small (not (eqb width 8)) 14 _ (omega arith)
-    (either_small (not (registered n (table server s))) 2 _ (omega arith)
-    (either_small (not (paired v)) 22 0 (omega arith) (omega arith)))
-
-pub fault_small : (c : XicsChange) (s : List ℕ) (e : ℕ) → e ≡ change_fault c s → e < 4096
-fault_small c s e q = rw q (change_small c s)

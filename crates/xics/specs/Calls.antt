@@ -1,8 +1,10 @@
 -- The calls on the lent bytes of an XICS.
-use Rattle.std.specs.Prelude.{ℕ, List, length, eqb}
+use Rattle.std.specs.Prelude.{ℕ, ◌≡◌, List, Result, length, eqb}
 use Rattle.lists.specs.Rows.{choose}
 use Rattle.answers.specs.Answer.{done}
-use Rattle.guest.specs.declared.Reading.{Reading}
+use Rattle.answers.specs.declared.Errno.{Errno}
+use Rattle.guest.specs.Machine.{Reading}
+use Rattle.guest.specs.Returned.{fault}
 use Rattle.calls.specs.Call.{Reply, refused, untold}
 use Rattle.xicswords.specs.Word.{destination, trimmed, fresh_server, fresh_source, delivers}
 use Rattle.xicsrows.specs.XicsLayout.{size, server, source, Row, table, added, worded, cleared}
@@ -33,6 +35,15 @@ changed (SetServer n width v) s = worded server (index_of n (table server s)) (t
 -- §2.3, §2.4: a call without an errno answers 0 and leaves these bytes; one with an errno is refused
 abbrev pub settled_xics : ℕ → List ℕ → List ℕ → Reply
 settled_xics e next s = choose (eqb e 0) (record { answer = done 0; lent = next }) (refused s e)
+
+-- Inner: what code that may write promises: its errno, 0 for none, and what it leaves: the next bytes, or, if refused, all as they were
+pub record Settles (e : ℕ) (next s : List ℕ) (r : Result (Unit {0}) Errno) (left : List ℕ) : Type 0 where
+  pub is : fault r ≡ e
+  pub leaves : left ≡ choose (eqb e 0) next s
+
+-- Inner: that of one change on bytes that passed the test
+abbrev pub Performs : XicsChange → List ℕ → Result (Unit {0}) Errno → List ℕ → Type 0
+Performs c s = Settles (change_fault c s) (changed c s) s
 
 -- §14.3: a call that may change an XICS
 unfoldable pub changes_xics : XicsChange → List ℕ → Reply

@@ -24,6 +24,13 @@ source_fault n d servers sources =
     (choose (leb 64 (length sources)) 12
     0)))
 
+-- Inner: the two refusals of §14.11, each by itself: of a width, and of a number
+abbrev pub width_fault : ℕ → ℕ
+width_fault width = choose (not (eqb width 8)) 14 0
+
+abbrev pub number_fault : ℕ → List Row → ℕ
+number_fault n rows = choose (not (registered n rows)) 2 0
+
 -- §14.11: a get of the word of n among these rows, into a value of the width; the first two of §14.9 and §14.10
 unfoldable pub word_fault : ℕ → ℕ → List Row → ℕ
 word_fault n width rows =

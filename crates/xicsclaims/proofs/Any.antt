@@ -6,7 +6,7 @@ use mathlib.Core.List.{List}
 use lib.ListN.{length}
 use lib.Dec.{eqb, leb}
 use borrow.Author.Tests.{eqb-false}
-use Rattle.guest.specs.declared.Reading.{Reading}
+use Rattle.guest.specs.Machine.{Reading}
 use Rattle.calls.specs.Call.{Reply, refused, untold, value_of, given, answered}
 use Rattle.step.specs.Step.{writes, gives, tells}
 use Rattle.xicswords.specs.Word.{paired}

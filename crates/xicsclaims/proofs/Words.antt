@@ -8,7 +8,7 @@ use lib.Dec.{eqb}
 use Rattle.lists.specs.Rows.{choose}
 use Rattle.words.specs.Words.{le}
 use Rattle.words.proofs.Bytes.{Bytes}
-use Rattle.guest.specs.declared.Reading.{Reading}
+use Rattle.guest.specs.Machine.{Reading}
 use Rattle.calls.specs.Call.{Reply, untold, value_of, given}
 use Rattle.step.specs.Step.{gives}
 use Rattle.xicswords.specs.Word.{trimmed, fresh_server, fresh_source}

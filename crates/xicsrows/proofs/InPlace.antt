@@ -8,11 +8,14 @@ use lib.ListN.{length, get_or, take, drop}
 use lib.Seq.{drop-drop, ext_get_or}
 use lib.Dec.{leb}
 use borrow.Author.Tests.{leb-true}
-use Rattle.words.specs.Words.{le_at, bytes_of, put_at}
+use Rattle.words.specs.Words.{le_at}
 use Rattle.words.proofs.Laws.{le_at-in}
 use Rattle.words.proofs.Rows.{length-rows_of, get_d-rows_of}
-use Rattle.xicsrows.specs.XicsLayout.{count_at, rows_at, Row, row_of, table, added, worded, put_word, counts_ok}
+use Rattle.xicsrows.specs.XicsLayout.{count_at, rows_at, Row, row_of, table, counts_ok, Counted}
 use Rattle.xicsrows.specs.Registered.{no_row}
+use Rattle.xicsrows.specs.declared.Table.{Table}
+use Rattle.xicsrows.specs.declared.Table.TheVariants.{Servers, Sources}
+use Rattle.xicsrows.specs.Tables.{number_of}
 
 -- row i of table t, by the places of its two words
 abbrev pub row_at : ℕ → ℕ → List ℕ → Row
@@ -22,6 +25,9 @@ module _ (t : ℕ) (s : List ℕ) where
   pub count_is : le_at s (count_at t) 8 ≡ length (table t s)
   unfolding table
   count_is = sym (length-rows_of row_of 16 (le_at s (count_at t) 8) (drop (rows_at t) s))
+
+  pub at_count : {at n : ℕ} → at ≡ count_at t → n ≡ le_at s at 8 → n ≡ length (table t s)
+  at_count e q = q ∙ ap (λ (k : ℕ). le_at s k 8) e ∙ count_is
 
   row_of_lem : (at : ℕ) → row_of (take 16 (drop at s)) ≡ record { number = le_at s at 8; word = le_at s (at + 8) 8 }
   unfolding row_of
@@ -40,11 +46,11 @@ module _ (t : ℕ) (s : List ℕ) where
       ∙ ap (λ (x : List ℕ). row_of (take 16 x)) (drop-drop (i * 16) (rows_at t) s)
       ∙ row_of_lem (rows_at t + i * 16)
 
-  pub number_read : (i at r : ℕ) → i < length (table t s) → at ≡ rows_at t + i * 16 → r ≡ le_at s at 8 → r ≡ (get_or (table t s) i no_row).number
-  number_read i at r h e q = q ∙ ap (λ (k : ℕ). le_at s k 8) e ∙ sym (ap (λ (x : Row). x.number) (row_is i h))
-
-  pub word_read : (i at r : ℕ) → i < length (table t s) → at ≡ rows_at t + i * 16 → r ≡ le_at s (at + 8) 8 → r ≡ (get_or (table t s) i no_row).word
-  word_read i at r h e q = q ∙ ap (λ (k : ℕ). le_at s (k + 8) 8) e ∙ sym (ap (λ (x : Row). x.word) (row_is i h))
+  -- the two words read at a row's place are the row
+  pub row_read : (i at n w : ℕ) → i < length (table t s) → at ≡ rows_at t + i * 16 → n ≡ le_at s at 8 → w ≡ le_at s (at + 8) 8
+      → record { number = n; word = w } ≡ get_or (table t s) i no_row
+  row_read i at n w h e p q =
+      ap₂ (λ (x y : ℕ). record { number = x; word = y }) (p ∙ ap (λ (k : ℕ). le_at s k 8) e) (q ∙ ap (λ (k : ℕ). le_at s (k + 8) 8) e) ∙ sym (row_is i h)
 
   -- rows that have these numbers and words are the table
   pub table_by : (l : List Row) → le_at s (count_at t) 8 ≡ length l → ((i : ℕ) → i < length l → row_at t i s ≡ get_or l i no_row) → table t s ≡ l
@@ -59,17 +65,14 @@ few zero s c h = subst (λ (k : ℕ). k ≤ 64) (count_is 0 s) (leb-true _ _ ((a
 few (suc zero) s c h = subst (λ (k : ℕ). k ≤ 64) (count_is 1 s) (leb-true _ _ ((and-eq-true_iff (leb (le_at s 0 8) 64) (leb (le_at s 8 8) 64)).0 c).1)
 few (suc (suc t)) s c h = absurd (omega arith)
 
--- the three stores of one row more
-pub added_of : (t number word : ℕ) (s a b c : List ℕ) (n at : ℕ) → n ≡ length (table t s) → at ≡ rows_at t + n * 16
-    → a ≡ put_at s at (bytes_of 8 number) → b ≡ put_at a (at + 8) (bytes_of 8 word) → c ≡ put_at b (count_at t) (bytes_of 8 (n + 1))
-    → c ≡ added t number word s
-unfolding added put_word
-added_of t number word s a b c n at l e p q r =
-    let m : at ≡ rows_at t + length (table t s) * 16 = e ∙ ap (λ (k : ℕ). rows_at t + k * 16) l in
-    r ∙ ap₂ (λ (x : List ℕ) (k : ℕ). put_at x (count_at t) (bytes_of 8 (k + 1)))
-    (q ∙ ap₂ (λ (x : List ℕ) (k : ℕ). put_at x (k + 8) (bytes_of 8 word)) (p ∙ ap (λ (k : ℕ). put_at s k (bytes_of 8 number)) m) m) l
+-- and of either table of the code
+pub few_rows : (t : Table) (s : List ℕ) → Counted s → length (table (number_of t) s) ≤ 64
+few_rows Servers s c = few 0 s c.counts (omega arith)
+few_rows Sources s c = few 1 s c.counts (omega arith)
 
--- the store of another word
-pub worded_of : (t i word : ℕ) (s a : List ℕ) (at : ℕ) → at ≡ rows_at t + i * 16 → a ≡ put_at s (at + 8) (bytes_of 8 word) → a ≡ worded t i word s
-unfolding worded put_word
-worded_of t i word s a at e p = p ∙ ap (λ (k : ℕ). put_at s (k + 8) (bytes_of 8 word)) e
+pub low : (t : Table) → number_of t ≤ 1
+low Servers = omega arith
+low Sources = omega arith
+
+-- what the proofs of the functions on a row read
+pub ruleset lying = (few_rows, low, row_read)

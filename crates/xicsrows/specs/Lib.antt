@@ -1,2 +1,3 @@
 pub mod XicsLayout
 pub mod Registered
+pub mod Tables

@@ -1,6 +1,6 @@
 -- Which numbers are registered among the rows of a table, and the word of each.
-use Rattle.std.specs.Prelude.{ℕ, Bool, true, ◌&&◌, not, List, [], ◌∷◌, length, get_or, ltb, eqb}
-use Rattle.lists.specs.Rows.{find_ix}
+use Rattle.std.specs.Prelude.{ℕ, Bool, true, ◌&&◌, not, List, [], ◌∷◌, length, get_or, ltb, eqb, Option, Some, None}
+use Rattle.lists.specs.Rows.{find_ix, choose}
 use Rattle.xicsrows.specs.XicsLayout.{Row}
 
 -- Notation: what stands past the last row
@@ -18,6 +18,10 @@ index_of n l = find_ix (has_number n) l
 -- §14.1: the number is registered
 unfoldable pub registered : ℕ → List Row → Bool
 registered n l = ltb (index_of n l) (length l)
+
+-- Inner: the index of the row with the number, if there is one
+abbrev pub row_with : ℕ → List Row → Option ℕ
+row_with n l = choose (registered n l) (Some (index_of n l)) None
 
 -- §14.1: the word of the source or the server with the number
 unfoldable pub word_of : ℕ → List Row → ℕ

@@ -3,6 +3,7 @@
 -- stays but for a row that is added there.
 use Rattle.std.specs.Prelude.{ℕ, ◌+◌, ◌*◌, ◌≡◌, Bool, true, ◌&&◌, List, length, drop, leb}
 use Rattle.words.specs.Words.{le_at, bytes_of, rows_of, put_at}
+use Rattle.xicsrows.specs.declared.Row as declared
 
 -- §14.2: the length of an XICS
 abbrev pub size : ℕ
@@ -22,10 +23,9 @@ count_at t = t * 8
 abbrev pub rows_at : ℕ → ℕ
 rows_at t = 16 + t * 1024
 
--- §14.1: a source or a server that is registered
-pub record Row : Type 0 where
-  pub number : ℕ
-  pub word : ℕ
+-- §14.1: a source or a server that is registered: its number and its word
+abbrev pub Row : Type 0
+Row = declared.Row
 
 -- §14.2: the row that 16 bytes stand for
 unfoldable pub row_of : List ℕ → Row

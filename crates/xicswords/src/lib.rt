@@ -21,15 +21,13 @@ pub fn is_narrow(w: u64) -> bool
 }
 
 // §14.10: whether source number and pending priority say the same: something is pending, or nothing is.
+#[tactic(auto, unfolding(crate::specs::Word::paired))]
 pub fn is_paired(v: u64) -> bool
     ensures { result ≡ paired v }
 {
     let number = field_get(v, 32, 24);
     let priority = field_get(v, 16, 8);
-    if number == 0 {
-        return priority == 255;
-    }
-    priority != 255
+    (number == 0) == (priority == 255)
 }
 
 // §14.10: a server's word as it is kept: the bits that are not used are 0.
@@ -63,6 +61,7 @@ pub fn fresh_source(server: u64) -> u64
 }
 
 // §14.11: whether a source with word w is deliverable to the server with word v.
+#[tactic(auto, unfolding(crate::specs::Word::delivers))]
 pub fn is_deliverable(w: u64, v: u64) -> bool
     ensures { result ≡ delivers w v }
 {
@@ -70,11 +69,5 @@ pub fn is_deliverable(w: u64, v: u64) -> bool
     let masked = field_get(w, 41, 1);
     let priority = field_get(w, 32, 8);
     let current = field_get(v, 56, 8);
-    if pending != 1 {
-        return false;
-    }
-    if masked != 0 {
-        return false;
-    }
-    priority < current
+    pending == 1 && masked == 0 && priority < current
 }

@@ -6,5 +6,5 @@ use Rattle.areas.proofs.ends_by.Goals as goal
 pub returns-then-a-limit : goal.returns-then-a-limit
 returns-then-a-limit c = ends_low _ _ (omega arith)
 
-pub returns : goal.returns
-returns c = ends_high _ _ (omega arith)
+pub returns-else-a-limit : goal.returns-else-a-limit
+returns-else-a-limit c = ends_high _ _ (omega arith)

@@ -6,8 +6,8 @@ use Rattle.areas.proofs.inside.Goals as goal
 pub returns-then-a-whole : goal.returns-then-a-whole
 returns-then-a-whole c = starts_before _ _ (omega arith)
 
-pub returns-then-whole-before : goal.returns-then-whole-before
-returns-then-whole-before c = starts_after _ _ (omega arith) (omega arith)
+pub returns-then-before-whole : goal.returns-then-before-whole
+returns-then-before-whole c = starts_within _ _ (omega arith) (omega arith)
 
-pub returns : goal.returns
-returns c = starts_within _ _ (omega arith) (omega arith)
+pub returns-else-before-whole : goal.returns-else-before-whole
+returns-else-before-whole c = starts_after _ _ (omega arith) (omega arith)

@@ -1,37 +1,25 @@
--- `calls::apply` meets its contract. Assumes nothing.
-use mathlib.Core.Path.{◌≡◌, sym, ◌∙◌}
-use mir.Syntax.{w64}
-use mir.Val.{to_z, of_z}
-use borrow.Author.Rules.{rules}
-use Rattle.calls.proofs.Laws.{parts, guest_kept, short, unsound, errno_small, refuses, settles}
+use mathlib.Core.Path.{◌≡◌}
+use Rattle.std.proofs.Common.{rules, Err}
+use Rattle.calls.proofs.Laws.{checked, parts, guest_kept, refuses, step_refuses, settles}
 use Rattle.calls.proofs.apply.Goals as goal
 
-pub returns-then-state-ne11400 : goal.returns-then-state-ne11400
-returns-then-state-ne11400 c = short _ _ c.if-state-ne11400.true
-
-pub returns-then-not-is_sound : goal.returns-then-not-is_sound
-returns-then-not-is_sound c = unsound _ _ c.if-state-ne11400.false (sym c.is_sound.ensures ∙ c.if-not-is_sound.true)
+pub returns-in_err-check : goal.returns-in_err-check
+returns-in_err-check c =
+    let e = c.in_err-check.field-0.0 in
+    let back : c.from_residual.result ≡ Err e = search rules in
+    refuses c.args.c _ e back c.in_err-check.ensures
 
 pub load_guest-requires : goal.load_guest-requires
-load_guest-requires c =
-    (c.if-state-ne11400.false, (parts _ (sym c.is_sound.ensures ∙ c.if-not-is_sound.false)).counts)
+load_guest-requires c = let k = checked _ c.in_ok-check.ensures in (k.0, (parts _ k.1).counts)
 
-pub step-o-requires : goal.step-o-requires
-step-o-requires c =
-    guest_kept _ (sym c.is_sound.ensures ∙ c.if-not-is_sound.false) _ c.load_guest.ensures
+pub step-requires : goal.step-requires
+step-requires c = guest_kept _ (checked _ c.in_ok-check.ensures).1 _ c.load_guest.ensures
 
-pub refuse-requires : goal.refuse-requires
-refuse-requires c =
-    errno_small c.args.c _ c.if-state-ne11400.false (sym c.is_sound.ensures ∙ c.if-not-is_sound.false)
-    c.load_guest.result c.load_guest.ensures.0 _ c.step-o.ensures
-
-pub returns-then-errno-ne0 : goal.returns-then-errno-ne0
-returns-then-errno-ne0 c =
-    let t : to_z w64 (of_z w64 c.refuse.result) ≡ c.refuse.result = search rules in
-    refuses _ _ c.if-state-ne11400.false (sym c.is_sound.ensures ∙ c.if-not-is_sound.false)
-    c.load_guest.result c.load_guest.ensures.0 _ c.step-o.ensures _ c.if-errno-ne0.true (t ∙ c.refuse.ensures)
+pub returns-in_err-next : goal.returns-in_err-next
+returns-in_err-next c =
+    let e = c.in_err-next.field-0.0 in
+    let back : c.from_residual-in_err-next.result ≡ Err e = search rules in
+    step_refuses c.args.c _ c.in_ok-check.ensures c.load_guest.result c.load_guest.ensures.0 e back c.in_err-next.ensures
 
 pub returns : goal.returns
-returns c =
-    settles _ _ c.if-state-ne11400.false (sym c.is_sound.ensures ∙ c.if-not-is_sound.false)
-    c.load_guest.result c.load_guest.ensures.0 _ c.step-o.ensures _ c.if-errno-ne0.false c.store_guest.ensures
+returns c = settles c.args.c _ c.in_ok-check.ensures c.load_guest.result c.load_guest.ensures.0 c.in_ok-next.next _ c.in_ok-next.ensures c.store_guest.ensures

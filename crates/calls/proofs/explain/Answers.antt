@@ -1,27 +1,30 @@
--- `calls::explain` meets its contract. Assumes nothing.
-use mathlib.Core.Path.{sym, ◌∙◌}
+use mathlib.Core.Path.{◌≡◌, sym}
+use Rattle.std.proofs.Common.{rules, Err}
+use Rattle.calls.proofs.Laws.{checked}
 use Rattle.calls.proofs.Restoring.{restorable, as_of}
-use Rattle.calls.proofs.Explaining.{explain_short, explain_unsound, explain_refuses, explain_reads}
+use Rattle.calls.proofs.Explaining.{explain_refuses, explain_unready, explain_reads}
 use Rattle.calls.proofs.explain.Goals as goal
 
-pub returns-then-state-ne11400 : goal.returns-then-state-ne11400
-returns-then-state-ne11400 c = explain_short _ _ c.if-state-ne11400.true _ c.told.ensures
+pub returns-in_err-check : goal.returns-in_err-check
+returns-in_err-check c =
+    let e = c.in_err-check.field-0.0 in
+    let back : c.from_residual.result ≡ Err e = search rules in
+    explain_refuses _ _ e back c.in_err-check.ensures
 
-pub returns-then-not-is_sound : goal.returns-then-not-is_sound
-returns-then-not-is_sound c =
-    explain_unsound _ _ c.if-state-ne11400.false (sym c.is_sound.ensures ∙ c.if-not-is_sound.true) _ c.told-then-not-is_sound.ensures
+pub memory_fault-requires : goal.memory_fault-requires
+memory_fault-requires c = (checked _ c.in_ok-check.ensures).0
 
-pub returns-then-fault-ne0 : goal.returns-then-fault-ne0
-returns-then-fault-ne0 c =
-    explain_refuses _ _ c.if-state-ne11400.false (sym c.is_sound.ensures ∙ c.if-not-is_sound.false)
-    c.memory_fault-fault.ensures c.if-fault-ne0.true _ c.told-then-fault-ne0.ensures
+pub returns-in_err-memory_fault : goal.returns-in_err-memory_fault
+returns-in_err-memory_fault c =
+    let e = c.in_err-memory_fault.field-0.0 in
+    let back : c.from_residual-in_err-memory_fault.result ≡ Err e = search rules in
+    explain_unready _ _ c.in_ok-check.ensures e back c.in_err-memory_fault.ensures
 
 pub read_tables-requires : goal.read_tables-requires
 read_tables-requires c =
-    restorable _ c.if-state-ne11400.false (sym c.is_sound.ensures ∙ c.if-not-is_sound.false) _
-    (sym c.memory_fault-fault.ensures ∙ c.if-fault-ne0.false) _ c.copy.ensures
+    let k = checked _ c.in_ok-check.ensures in
+    restorable _ k.0 k.1 _ (sym c.in_ok-memory_fault.ensures) _ (search rules)
 
 pub returns : goal.returns
 returns c =
-    explain_reads _ _ c.if-state-ne11400.false (sym c.is_sound.ensures ∙ c.if-not-is_sound.false)
-    c.memory_fault-fault.ensures c.if-fault-ne0.false (as_of _ c.copy.ensures c.read_tables.ensures) _ c.told-2.ensures
+    explain_reads _ _ c.in_ok-check.ensures c.in_ok-memory_fault.ensures c.read_tables.result _ (as_of _ (search rules) c.read_tables.ensures) c.code_of.ensures

@@ -1,4 +1,3 @@
--- `calls::performed` meets its contract. Assumes nothing.
 use Rattle.calls.proofs.Laws.{parts, box_kept, performed_is}
 use Rattle.calls.proofs.performed.Goals as goal
 
@@ -14,5 +13,5 @@ perform-requires c =
 
 pub returns : goal.returns
 returns c =
-    performed_is c.args.c _ c.load_guest.result c.load_mapping.result _ c.load_guest.ensures.0 c.load_mapping.ensures.0
+    performed_is c.args.c _ c.load_guest.result c.load_mapping.result c.perform.result c.load_guest.ensures.0 c.load_mapping.ensures.0
     c.perform.ensures

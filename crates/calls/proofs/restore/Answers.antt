@@ -1,46 +1,34 @@
--- `calls::restore` meets its contract. Assumes nothing.
-use mathlib.Core.Path.{◌≡◌, sym, ◌∙◌}
-use mir.Syntax.{w64}
-use mir.Val.{to_z, of_z}
-use borrow.Author.Rules.{rules}
-use Rattle.calls.proofs.Saving.{memory_small}
-use Rattle.calls.proofs.Restoring.{restorable, as_of, restore_small, restore_short, restore_unsound, restore_refuses, restore_faulty, restore_done}
+use mathlib.Core.Path.{◌≡◌, sym}
+use Rattle.std.proofs.Common.{rules, Err}
+use Rattle.calls.proofs.Laws.{checked}
+use Rattle.calls.proofs.Restoring.{restorable, as_of, restore_refuses, restore_unready, restore_faulty, restore_done}
 use Rattle.calls.proofs.restore.Goals as goal
 
-pub returns-then-state-ne11400 : goal.returns-then-state-ne11400
-returns-then-state-ne11400 c = restore_short _ _ c.if-state-ne11400.true
+pub returns-in_err-check : goal.returns-in_err-check
+returns-in_err-check c =
+    let e = c.in_err-check.field-0.0 in
+    let back : c.from_residual.result ≡ Err e = search rules in
+    restore_refuses _ _ e back c.in_err-check.ensures
 
-pub returns-then-not-is_sound : goal.returns-then-not-is_sound
-returns-then-not-is_sound c = restore_unsound _ _ c.if-state-ne11400.false (sym c.is_sound.ensures ∙ c.if-not-is_sound.true)
+pub memory_fault-requires : goal.memory_fault-requires
+memory_fault-requires c = (checked _ c.in_ok-check.ensures).0
 
-pub refuse-requires : goal.refuse-requires
-refuse-requires c = memory_small _ _ c.memory_fault-fault.ensures
+pub returns-in_err-memory_fault : goal.returns-in_err-memory_fault
+returns-in_err-memory_fault c =
+    let e = c.in_err-memory_fault.field-0.0 in
+    let back : c.from_residual-in_err-memory_fault.result ≡ Err e = search rules in
+    restore_unready _ _ c.in_ok-check.ensures e back c.in_err-memory_fault.ensures
 
-pub returns-then-fault-ne0 : goal.returns-then-fault-ne0
-returns-then-fault-ne0 c =
-    let t : to_z w64 (of_z w64 c.refuse.result) ≡ c.refuse.result = search rules in
-    restore_refuses _ _ c.if-state-ne11400.false (sym c.is_sound.ensures ∙ c.if-not-is_sound.false)
-    c.memory_fault-fault.ensures _ c.if-fault-ne0.true (t ∙ c.refuse.ensures)
+pub restore_tables-requires : goal.restore_tables-requires
+restore_tables-requires c =
+    let k = checked _ c.in_ok-check.ensures in
+    restorable _ k.0 k.1 _ (sym c.in_ok-memory_fault.ensures) _ (search rules)
 
-pub restore_tables-errno-requires : goal.restore_tables-errno-requires
-restore_tables-errno-requires c =
-    restorable _ c.if-state-ne11400.false (sym c.is_sound.ensures ∙ c.if-not-is_sound.false) _
-    (sym c.memory_fault-fault.ensures ∙ c.if-fault-ne0.false) _ c.copy.ensures
-
-pub refuse-requires-then-errno-ne0 : goal.refuse-requires-then-errno-ne0
-refuse-requires-then-errno-ne0 c =
-    restore_small _ _ c.if-state-ne11400.false (sym c.is_sound.ensures ∙ c.if-not-is_sound.false)
-    c.memory_fault-fault.ensures c.if-fault-ne0.false (as_of _ c.copy.ensures c.restore_tables-errno.ensures)
-
-pub returns-then-errno-ne0 : goal.returns-then-errno-ne0
-returns-then-errno-ne0 c =
-    let t : to_z w64 (of_z w64 c.refuse-then-errno-ne0.result) ≡ c.refuse-then-errno-ne0.result = search rules in
-    restore_faulty _ _ c.if-state-ne11400.false (sym c.is_sound.ensures ∙ c.if-not-is_sound.false)
-    c.memory_fault-fault.ensures c.if-fault-ne0.false (as_of _ c.copy.ensures c.restore_tables-errno.ensures)
-    _ c.if-errno-ne0.true (t ∙ c.refuse-then-errno-ne0.ensures)
+pub returns-in_err-restore_tables : goal.returns-in_err-restore_tables
+returns-in_err-restore_tables c =
+    let e = c.in_err-restore_tables.field-0.0 in
+    let back : c.from_residual-in_err-restore_tables.result ≡ Err e = search rules in
+    restore_faulty _ _ c.in_ok-check.ensures c.in_ok-memory_fault.ensures e back (as_of _ (search rules) c.in_err-restore_tables.ensures)
 
 pub returns : goal.returns
-returns c =
-    restore_done _ _ c.if-state-ne11400.false (sym c.is_sound.ensures ∙ c.if-not-is_sound.false)
-    c.memory_fault-fault.ensures c.if-fault-ne0.false (as_of _ c.copy.ensures c.restore_tables-errno.ensures)
-    _ c.if-errno-ne0.false c.copy-2.ensures
+returns c = restore_done _ _ c.in_ok-check.ensures c.in_ok-memory_fault.ensures _ (as_of _ (search rules) c.in_ok-restore_tables.ensures) (search rules)

@@ -1,35 +1,32 @@
--- `calls::save` meets its contract. Assumes nothing.
-use mathlib.Core.Path.{◌≡◌, sym, ◌∙◌}
-use mir.Syntax.{w64}
-use mir.Val.{to_z, of_z}
-use borrow.Author.Rules.{rules}
-use Rattle.calls.proofs.Laws.{parts}
-use Rattle.calls.proofs.Saving.{fault_long, fault_placed, memory_small, save_short, save_unsound, save_refuses, save_done}
+use mathlib.Core.Path.{◌≡◌, sym}
+use Rattle.std.proofs.Common.{rules, Err}
+use Rattle.calls.proofs.Laws.{checked, parts}
+use Rattle.calls.proofs.Saving.{fault_placed, fault_long, save_refuses, save_fails, save_done}
 use Rattle.calls.proofs.save.Goals as goal
 
-pub returns-then-state-ne11400 : goal.returns-then-state-ne11400
-returns-then-state-ne11400 c = save_short _ _ c.if-state-ne11400.true
+pub returns-in_err-check : goal.returns-in_err-check
+returns-in_err-check c =
+    let e = c.in_err-check.field-0.0 in
+    let back : c.from_residual.result ≡ Err e = search rules in
+    save_refuses _ _ e back c.in_err-check.ensures
 
-pub returns-then-not-is_sound : goal.returns-then-not-is_sound
-returns-then-not-is_sound c = save_unsound _ _ c.if-state-ne11400.false (sym c.is_sound.ensures ∙ c.if-not-is_sound.true)
+pub memory_fault-requires : goal.memory_fault-requires
+memory_fault-requires c = (checked _ c.in_ok-check.ensures).0
 
-pub refuse-requires : goal.refuse-requires
-refuse-requires c = memory_small _ _ c.memory_fault-fault.ensures
-
-pub returns-then-fault-ne0 : goal.returns-then-fault-ne0
-returns-then-fault-ne0 c =
-    let t : to_z w64 (of_z w64 c.refuse.result) ≡ c.refuse.result = search rules in
-    save_refuses _ _ c.if-state-ne11400.false (sym c.is_sound.ensures ∙ c.if-not-is_sound.false)
-    c.memory_fault-fault.ensures _ c.if-fault-ne0.true (t ∙ c.refuse.ensures)
+pub returns-in_err-memory_fault : goal.returns-in_err-memory_fault
+returns-in_err-memory_fault c =
+    let e = c.in_err-memory_fault.field-0.0 in
+    let back : c.from_residual-in_err-memory_fault.result ≡ Err e = search rules in
+    save_fails _ _ c.in_ok-check.ensures e back c.in_err-memory_fault.ensures
 
 pub save_tables-requires : goal.save_tables-requires
 save_tables-requires c =
-    let h = c.if-state-ne11400.false in
-    let p = parts _ (sym c.is_sound.ensures ∙ c.if-not-is_sound.false) in
-    let y = sym c.memory_fault-fault.ensures ∙ c.if-fault-ne0.false in
+    let k = checked _ c.in_ok-check.ensures in
+    let p = parts _ k.1 in
+    let y = sym c.in_ok-memory_fault.ensures in
     record {
-      counted = record { long = h; counts = p.counts };
-      mapped = record { long = h; counts = p.map_counts_lem };
+      counted = record { long = k.0; counts = p.counts };
+      mapped = record { long = k.0; counts = p.map_counts_lem };
       guest = p.guest;
       mapping = p.mapping;
       placed = fault_placed _ _ y;
@@ -37,6 +34,4 @@ save_tables-requires c =
     }
 
 pub returns : goal.returns
-returns c =
-    save_done _ _ c.if-state-ne11400.false (sym c.is_sound.ensures ∙ c.if-not-is_sound.false)
-    c.memory_fault-fault.ensures _ c.if-fault-ne0.false c.save_tables.ensures
+returns c = save_done _ _ c.in_ok-check.ensures _ c.in_ok-memory_fault.ensures c.save_tables.ensures

@@ -1,16 +1,18 @@
 use mathlib.Core.Path.{◌≡◌, ◌∙◌}
 use mir.Syntax.{w64}
 use mir.Val.{to_z, of_z}
-use borrow.Author.Tests.{eq-eqb, ne_eqb}
-use borrow.Author.Rules.{rules}
+use Rattle.std.proofs.Common.{rules}
+use borrow.Author.Tests.{ne_eqb}
+use Rattle.answers.specs.Number.{number}
+use Rattle.guest.proofs.Returned.{number_not_0}
 use Rattle.calls.proofs.tell.Goals as goal
 
-pub returns-then-errno-ne0 : goal.returns-then-errno-ne0
-returns-then-errno-ne0 c =
-    let t : to_z w64 (of_z w64 c.refuse.result) ≡ c.refuse.result = search rules in
-    rw (ne_eqb _ _ c.if-errno-ne0.true) (t ∙ c.refuse.ensures)
-
-pub returns : goal.returns
-returns c =
+pub returns-in-Ok : goal.returns-in-Ok
+returns-in-Ok c =
     let t : to_z w64 (of_z w64 c.done.result) ≡ c.done.result = search rules in
-    rw (eq-eqb _ _ c.if-errno-ne0.false) (t ∙ c.done.ensures)
+    rw c.in-Ok.is (t ∙ c.done.ensures)
+
+pub returns-in-Err : goal.returns-in-Err
+returns-in-Err c =
+    let t : to_z w64 (of_z w64 c.refusal.result) ≡ c.refusal.result = search rules in
+    rw (c.in-Err.is, ne_eqb (number c.in-Err.e) 0 (number_not_0 c.in-Err.e)) (t ∙ c.refusal.ensures)

@@ -1,42 +1,22 @@
 -- `its::move_event` meets its contract. Assumes nothing.
 use native.Mathlib.Omega.{arith}
-use borrow.Author.Rules.{rules}
-use Rattle.mapping.proofs.Counts.{Full, full_of, events_room, collections_room, has_row, no_row, row_read}
-use Rattle.mapping.specs.Commands.{move}
-use Rattle.mapping.specs.Mapped.{no_event, rows}
+use mathlib.Core.Bool.{true}
+use mathlib.Core.Path.{◌≡◌}
+use lib.Seq.{get_or-take}
+use Rattle.std.proofs.lemmas.Grind.{common_steps}
+use Rattle.mapping.specs.Commands.{has_event, has_collection}
+use Rattle.mapping.specs.Mapped.{rows}
 use Rattle.its.proofs.Numbers.{collection_below}
-use Rattle.its.proofs.Steps.{accepts}
+use Rattle.its.proofs.Steps.{accepts, moved, stands}
 use Rattle.its.proofs.move_event.Goals as goal
-
-pub returns-then-k-at : goal.returns-then-k-at
-unfolding move
-returns-then-k-at c =
-    let full : Full c.args.k = full_of c.args.k (search rules) (search rules) (search rules) in
-    rw (no_row _ _ _ (events_room _ (full) c.requires.within) _ c.find_event-at.ensures c.if-k-at.true) c.refused.ensures
-
-pub returns-then-k-find_collection : goal.returns-then-k-find_collection
-unfolding move
-returns-then-k-find_collection c =
-    let full : Full c.args.k = full_of c.args.k (search rules) (search rules) (search rules) in
-    rw (
-      has_row _ _ _ (events_room _ (full) c.requires.within) _ c.find_event-at.ensures c.if-k-at.false,
-      no_row _ _ _ (collections_room _ (full) c.requires.within) _ c.find_collection.ensures c.if-k-find_collection.true,
-    ) c.refused-then-k-find_collection.ensures
 
 pub overflow_cast-e : goal.overflow_cast-e
 overflow_cast-e c =
-    let full : Full c.args.k = full_of c.args.k (search rules) (search rules) (search rules) in
-    omega (arith, collection_below _ (rows c.args.k) c.requires.collections (has_row _ _ _ (collections_room _ (full) c.requires.within) _ c.find_collection.ensures c.if-k-find_collection.false))
+    let collection : has_collection c.args.icid (rows c.args.k) ≡ true = grind (arith, common_steps, stands) in
+    omega (arith, collection_below _ _ c.requires.collections collection)
 
 pub returns : goal.returns
-unfolding move
 returns c =
-    let full : Full c.args.k = full_of c.args.k (search rules) (search rules) (search rules) in
-    let r = events_room _ (full) c.requires.within in
-    rw (
-      has_row _ _ _ r _ c.find_event-at.ensures c.if-k-at.false,
-      has_row _ _ _ (collections_room _ (full) c.requires.within) _ c.find_collection.ensures c.if-k-find_collection.false,
-      row_read _ _ _ r _ c.find_event-at.ensures no_event c.if-k-at.false,
-      ← c.find_event-at.ensures,
-    )
-    (accepts c.accepted.ensures c.set_event.ensures)
+    let event : has_event c.args.device c.args.event (rows c.args.k) ≡ true = grind (arith, common_steps, stands) in
+    let collection : has_collection c.args.icid (rows c.args.k) ≡ true = grind (arith, common_steps, stands) in
+    rw (moved _ _ _ (rows c.args.k) event collection, ← c.find_event-at.ensures, get_or-take _ _ _ _ c.if-k-at.false) (accepts c.set_event.ensures)

@@ -1,30 +1,28 @@
 -- `keeps::covers` meets its contract. The loop's invariant: what is left of the number fits into what is left of the regions where the
 -- whole fits. Assumes nothing.
 use native.Mathlib.Omega.{arith}
-use mathlib.Core.Path.{refl, sym, ◌∙◌}
-use Rattle.keeps.proofs.Rows.{covers_here, covers_later, covers_end}
+use mathlib.Core.Path.{sym, ◌∙◌}
+use Rattle.guest.specs.Machine.{no_region}
+use Rattle.layout.specs.Layout.{decode}
+use Rattle.rules.proofs.Rows.{covers_here, covers_later, covers_end}
 use Rattle.keeps.proofs.covers.Goals as goal
-
-pub region_count-rows-requires : goal.region_count-rows-requires
-region_count-rows-requires c = c.requires
-
-pub loop-i-init : goal.loop-i-init
-loop-i-init c = (omega arith, refl)
-
-pub region_at-row-requires : goal.region_at-row-requires
-region_at-row-requires c = (c.requires, omega (arith, c.loop-i-test.true, c.region_count-rows.ensures))
 
 pub returns-then-left-row : goal.returns-then-left-row
 returns-then-left-row c =
-    sym (c.loop-i.invariant.1
-    ∙ covers_here _ _ c.region_count-rows.ensures _ _ c.region_at-row.ensures c.loop-i-test.true _ c.if-left-row.true)
+    let l = (decode c.args.s.now).regions in
+    sym (c.loop-i.invariant
+    ∙ covers_here l c.loop-i.i no_region c.loop-i.left (omega (arith, c.loop-i-test.true, c.region_count-i-end.ensures))
+    (rw c.region_at-row.ensures at c.if-left-row.true))
 
 pub loop-i-preserved : goal.loop-i-preserved
-loop-i-preserved c = (
-  omega arith,
-  c.loop-i.invariant.1
-      ∙ covers_later _ _ c.region_count-rows.ensures _ _ c.region_at-row.ensures c.loop-i-test.true _ c.if-left-row.false,
-)
+loop-i-preserved c =
+    let l = (decode c.args.s.now).regions in
+    c.loop-i.invariant
+    ∙ rw c.region_at-row.ensures
+    (covers_later l c.loop-i.i no_region c.loop-i.left (omega (arith, c.loop-i-test.true, c.region_count-i-end.ensures))
+    (rw c.region_at-row.ensures at c.if-left-row.false))
 
 pub returns : goal.returns
-returns c = sym (c.loop-i.invariant.1 ∙ covers_end _ _ c.region_count-rows.ensures _ _ c.loop-i-test.false)
+returns c =
+    sym (c.loop-i.invariant
+    ∙ covers_end (decode c.args.s.now).regions c.loop-i.i c.loop-i.left (omega (arith, c.loop-i-test.false, c.region_count-i-end.ensures)))

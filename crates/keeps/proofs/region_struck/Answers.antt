@@ -1,34 +1,23 @@
--- `keeps::region_struck` meets its contract. The loop's invariant: what is left of the regions is struck where the whole is.
--- Assumes nothing.
+-- `keeps::region_struck` meets its contract. Assumes nothing.
+use Prim.Native.Nat.{◌-◌}
+use lib.ListN.{get_or}
 use native.Mathlib.Omega.{arith}
-use mathlib.Core.Path.{refl, sym, ◌∙◌}
+use mathlib.Core.Path.{◌∙◌}
+use borrow.Author.Rules.{rules}
+use borrow.Author.Tests.{tests}
+use Rattle.std.proofs.lemmas.Iterator.{YieldsList-from_range}
+use Rattle.std.proofs.lemmas.Iterator.Search.{any_from_yields_List}
 use Rattle.layout.specs.Layout.{decode}
-use Rattle.keeps.proofs.Rows.{count_small, struck_here, struck_later, struck_end}
+use Rattle.guest.specs.Machine.{no_region}
+use Rattle.areas.specs.Area.{overlaps}
+use Rattle.rules.specs.Standing.{region_area}
+use Rattle.keeps.proofs.Rows.{region_strikes}
 use Rattle.keeps.proofs.region_struck.Goals as goal
 
-pub region_count-n-requires : goal.region_count-n-requires
-region_count-n-requires c = c.requires.counted.0
-
-pub loop-i-init : goal.loop-i-init
-loop-i-init c = (omega (arith, c.requires.from_in_bounds, c.region_count-n.ensures), refl)
-
-pub region_at-row-requires : goal.region_at-row-requires
-region_at-row-requires c = (c.requires.counted.0, omega (arith, c.loop-i-test.true, c.region_count-n.ensures))
-
-pub overflow_mul-b : goal.overflow_mul-b
-overflow_mul-b c = omega (arith, count_small _ _ c.region_count-n.ensures _ _ c.region_at-row.ensures c.loop-i-test.true c.requires.counted.1)
-
-pub returns-then-overlaps : goal.returns-then-overlaps
-returns-then-overlaps c =
-    sym (c.loop-i.invariant.1
-    ∙ struck_here (decode c.args.s.now).regions _ c.region_count-n.ensures _ _ c.region_at-row.ensures c.loop-i-test.true _ (sym c.overlaps.ensures ∙ c.if-overlaps.true))
-
-pub loop-i-preserved : goal.loop-i-preserved
-loop-i-preserved c = (
-  omega arith,
-  c.loop-i.invariant.1
-      ∙ struck_later (decode c.args.s.now).regions _ c.region_count-n.ensures _ _ c.region_at-row.ensures c.loop-i-test.true _ (sym c.overlaps.ensures ∙ c.if-overlaps.false),
-)
-
 pub returns : goal.returns
-returns c = sym (c.loop-i.invariant.1 ∙ struck_end (decode c.args.s.now).regions _ c.region_count-n.ensures _ _ c.loop-i-test.false)
+returns c =
+    let l = (decode c.args.s.now).regions in
+    any_from_yields_List (λ i. overlaps c.args.a (region_area (get_or l i no_region))) _ _ _ c.any.ensures.ran
+    (YieldsList-from_range c.args.from c.region_count.result (c.region_count.result - c.args.from) (cc) (omega arith))
+    (λ x b q k. search (rules, tests))
+    ∙ region_strikes l c.args.a _ _ (omega (arith, c.region_count.ensures, c.requires.from_in_bounds))

@@ -1,30 +1,22 @@
--- `keeps::taken_from` meets its contract. The loop's invariant: what is left of the VCPUs has the affinity where the whole has.
--- Assumes nothing.
+-- `keeps::taken_from` meets its contract. Assumes nothing.
+use Prim.Native.Nat.{◌-◌}
+use lib.ListN.{get_or}
+use lib.Dec.{eqb}
 use native.Mathlib.Omega.{arith}
-use mathlib.Core.Path.{refl, sym, ◌∙◌}
-use Rattle.keeps.proofs.Rows.{taken_here, taken_later, taken_end}
+use mathlib.Core.Path.{◌∙◌}
+use borrow.Author.Rules.{rules}
+use borrow.Author.Tests.{tests}
+use Rattle.std.proofs.lemmas.Iterator.{YieldsList-from_range}
+use Rattle.std.proofs.lemmas.Iterator.Search.{any_from_yields_List}
+use Rattle.layout.specs.Layout.{decode}
+use Rattle.guest.specs.Machine.{no_vcpu}
+use Rattle.keeps.proofs.Rows.{vcpu_taken}
 use Rattle.keeps.proofs.taken_from.Goals as goal
 
-pub vcpu_count-n-requires : goal.vcpu_count-n-requires
-vcpu_count-n-requires c = c.requires.counted
-
-pub loop-i-init : goal.loop-i-init
-loop-i-init c = (omega (arith, c.requires.from_in_bounds, c.vcpu_count-n.ensures), refl)
-
-pub vcpu_at-row-requires : goal.vcpu_at-row-requires
-vcpu_at-row-requires c = (c.requires.counted, omega (arith, c.loop-i-test.true, c.vcpu_count-n.ensures))
-
-pub returns-then-row-affinity : goal.returns-then-row-affinity
-returns-then-row-affinity c =
-    sym (c.loop-i.invariant.1
-    ∙ taken_here _ _ c.vcpu_count-n.ensures _ _ c.vcpu_at-row.ensures c.loop-i-test.true _ c.if-row-affinity.true)
-
-pub loop-i-preserved : goal.loop-i-preserved
-loop-i-preserved c = (
-  omega arith,
-  c.loop-i.invariant.1
-      ∙ taken_later _ _ c.vcpu_count-n.ensures _ _ c.vcpu_at-row.ensures c.loop-i-test.true _ c.if-row-affinity.false,
-)
-
 pub returns : goal.returns
-returns c = sym (c.loop-i.invariant.1 ∙ taken_end _ _ c.vcpu_count-n.ensures _ _ c.loop-i-test.false)
+returns c =
+    let l = (decode c.args.s.now).vcpus in
+    any_from_yields_List (λ i. eqb (get_or l i (no_vcpu 0)).affinity c.args.affinity) _ _ _ c.any.ensures.ran
+    (YieldsList-from_range c.args.from c.vcpu_count.result (c.vcpu_count.result - c.args.from) (cc) (omega arith))
+    (λ x b q k. search (rules, tests))
+    ∙ vcpu_taken l c.args.affinity _ _ (omega (arith, c.vcpu_count.ensures, c.requires.from_in_bounds))

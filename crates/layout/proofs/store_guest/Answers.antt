@@ -15,4 +15,4 @@ returns c =
     let hr = c.requires.1.regions in
     let hv = c.requires.1.vcpus in
     stored_of (view g) _ _ _ _ _ _ _ (sym (length-take-le _ g.regions.rows (omega arith))) (sym (length-take-le _ g.vcpus.rows (omega arith)))
-    c.store_banks.ensures c.store_vcpus.ensures c.store_regions.ensures c.store_head.ensures
+    c.store_rows.ensures c.store_rows-2.ensures c.store_rows-3.ensures c.store_head.ensures

@@ -14,7 +14,7 @@ returns c =
     run_more 8 _ _ _ 0 168 (r ++ k ++ f ++ t) (x.regions ∷ x.vcpus ∷ []) (omega arith) (omega (arith, c.requires))
     (run_more 8 _ _ _ 0 120 (r ++ k ++ f) t (omega arith) (omega (arith, c.requires))
     (run_more 8 _ _ _ 0 72 (r ++ k) f (omega arith) (omega (arith, c.requires))
-    (run_more 8 _ _ _ 0 24 r k (omega arith) (omega (arith, c.requires)) c.store_three.ensures c.store_control.ensures)
+    (run_more 8 _ _ _ 0 24 r k (omega arith) (omega (arith, c.requires)) c.store_words.ensures c.store_control.ensures)
     c.store_frames.ensures)
     c.store_tables.ensures)
-    c.store_pair.ensures
+    c.store_words-2.ensures

@@ -3,5 +3,4 @@ use Rattle.lines.proofs.Laws.{ended}
 use Rattle.lines.proofs.put_ended.Goals as goal
 
 pub returns : goal.returns
-returns c =
-    ended _ _ _ _ _ _ _ c.requires c.put_text-next.auto.out c.put_text-next.ensures
+returns g c = ended _ _ _ _ _ _ c.put_text.ensures c.push.ensures.items

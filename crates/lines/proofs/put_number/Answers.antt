@@ -5,5 +5,5 @@ use Rattle.lines.proofs.Laws.{adds_both, adds_as}
 use Rattle.lines.proofs.put_number.Goals as goal
 
 pub returns : goal.returns
-returns c =
-    adds_as (adds_both c.put_text-number.ensures c.put_decimal.ensures) (simp append_assoc) (omega arith)
+returns g c =
+    adds_as (adds_both c.put_text.ensures c.put_decimal.ensures) (simp append_assoc) (omega arith)

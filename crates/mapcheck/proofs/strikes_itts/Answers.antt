@@ -1,32 +1,17 @@
--- `mapcheck::strikes_itts` meets its contract. The loop's invariant: what is left of the ITTs is struck where the whole is.
--- Assumes nothing.
-use native.Mathlib.Omega.{arith}
-use mathlib.Core.Path.{ap, ◌∙◌}
-use Rattle.mapping.specs.Mapped.{itt_area}
-use Rattle.mapcheck.proofs.Verdicts.{bits_few}
-use Rattle.mapcheck.proofs.Overlaps.{strike_start, strike_here, strike_turn, strike_end}
+-- `mapcheck::strikes_itts` meets its contract. Assumes nothing.
+use mathlib.Core.Path.{refl, ◌∙◌}
+use lib.ListN.{get_or}
+use Rattle.std.proofs.Common.{rules}
+use Rattle.std.proofs.lemmas.Iterator.{YieldsList-from_range}
+use Rattle.std.proofs.lemmas.Iterator.Search.{any_from_yields_List}
+use Rattle.areas.specs.Area.{overlaps}
+use Rattle.mapping.specs.Mapped.{itt_area, no_device}
+use Rattle.maplayout.specs.MapLayout.{decode_map}
+use Rattle.mapcheck.proofs.Overlaps.{any_struck}
 use Rattle.mapcheck.proofs.strikes_itts.Goals as goal
 
-pub device_count-n-requires : goal.device_count-n-requires
-device_count-n-requires c = c.requires.0.counted
-
-pub loop-i-init : goal.loop-i-init
-loop-i-init c = strike_start _ _ _ _ c.device_count-n.ensures c.requires.1
-
-pub device_at-requires : goal.device_at-requires
-device_at-requires c = (c.requires.0.counted, omega (arith, c.loop-i.invariant))
-
-pub itt_area-requires : goal.itt_area-requires
-itt_area-requires c =
-    bits_few _ _ c.requires.0.small (omega (arith, c.loop-i.invariant)) c.device_at.ensures
-
-pub returns-then-overlaps : goal.returns-then-overlaps
-returns-then-overlaps c =
-    strike_here _ _ _ _ _ c.loop-i.invariant c.loop-i-test.true (c.itt_area.ensures ∙ ap itt_area c.device_at.ensures) c.overlaps.ensures c.if-overlaps.true
-
-pub loop-i-preserved : goal.loop-i-preserved
-loop-i-preserved c =
-    strike_turn _ _ _ _ _ c.loop-i.invariant c.loop-i-test.true (c.itt_area.ensures ∙ ap itt_area c.device_at.ensures) c.overlaps.ensures c.if-overlaps.false
-
 pub returns : goal.returns
-returns c = strike_end _ _ _ _ _ c.loop-i.invariant c.loop-i-test.false
+returns c =
+    any_from_yields_List (λ i. overlaps c.args.a (itt_area (get_or (decode_map c.args.s.now).devices i no_device))) _ _ _ c.any.ensures.ran
+    (YieldsList-from_range c.args.from c.device_count.result _ refl refl) (λ x b q k. search rules)
+    ∙ any_struck _ _ _ _ c.device_count.ensures c.requires.1

@@ -4,4 +4,4 @@ use Rattle.maplayout.proofs.add_device.Goals as goal
 
 pub returns : goal.returns
 returns c =
-    device_puts _ _ _ _ _ c.device_count-n.ensures c.store_device.ensures c.put64.ensures
+    device_puts _ _ _ _ _ c.device_count-n.ensures c.put_row.ensures c.put64.ensures

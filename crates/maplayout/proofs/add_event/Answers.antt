@@ -4,4 +4,4 @@ use Rattle.maplayout.proofs.add_event.Goals as goal
 
 pub returns : goal.returns
 returns c =
-    event_puts _ _ _ _ _ c.event_count-n.ensures c.store_event.ensures c.put64.ensures
+    event_puts _ _ _ _ _ c.event_count-n.ensures c.put_row.ensures c.put64.ensures

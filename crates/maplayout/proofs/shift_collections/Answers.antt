@@ -7,40 +7,22 @@ pub loop-j-init : goal.loop-j-init
 loop-j-init c =
     shift_start _ _ _ _ c.requires.0 c.requires.1 c.requires.2 c.requires.3
 
-pub overflow_mul-j : goal.overflow_mul-j
-overflow_mul-j c = omega (arith, c.requires.3)
-
-pub overflow_add-j : goal.overflow_add-j
-overflow_add-j c = omega (arith, c.requires.3)
-
-pub load_collection-row-requires : goal.load_collection-row-requires
-load_collection-row-requires c =
+pub row_at-row-requires : goal.row_at-row-requires
+row_at-row-requires c =
     omega (arith, c.requires.3, same _ _ _ _ c.requires.0 c.requires.1 c.requires.2 c.requires.3 _ _ _ c.loop-j.invariant)
 
-pub overflow_mul-j-in-loop-j : goal.overflow_mul-j-in-loop-j
-overflow_mul-j-in-loop-j c = omega (arith, c.requires.3)
-
-pub overflow_add-j-in-loop-j : goal.overflow_add-j-in-loop-j
-overflow_add-j-in-loop-j c = omega (arith, c.requires.3)
-
-pub store_collection-requires : goal.store_collection-requires
-store_collection-requires c =
+pub put_row-requires : goal.put_row-requires
+put_row-requires c =
     omega (arith, c.requires.3, same _ _ _ _ c.requires.0 c.requires.1 c.requires.2 c.requires.3 _ _ _ c.loop-j.invariant)
 
 pub loop-j-preserved : goal.loop-j-preserved
 loop-j-preserved c =
-    shift_turn _ _ _ _ c.requires.0 c.requires.1 c.requires.2 c.requires.3 _ _ _ c.loop-j.invariant c.loop-j-test.true _ c.load_collection-row.ensures _ c.store_collection.auto.s c.store_collection.ensures
+    shift_turn _ _ _ _ c.requires.0 c.requires.1 c.requires.2 c.requires.3 _ _ _ c.loop-j.invariant c.loop-j-test.true _ c.row_at-row.ensures _ c.put_row.auto.s c.put_row.ensures
 
-pub overflow_mul-n : goal.overflow_mul-n
-overflow_mul-n c = omega (arith, c.requires.3)
-
-pub overflow_add-n : goal.overflow_add-n
-overflow_add-n c = omega (arith, c.requires.3)
-
-pub store_collection-requires-2 : goal.store_collection-requires-2
-store_collection-requires-2 c =
+pub put_row-requires-2 : goal.put_row-requires-2
+put_row-requires-2 c =
     omega (arith, c.requires.3, same _ _ _ _ c.requires.0 c.requires.1 c.requires.2 c.requires.3 _ _ _ c.loop-j.invariant)
 
 pub returns : goal.returns
 returns c =
-    shift_end _ _ _ _ c.requires.0 c.requires.1 c.requires.2 c.requires.3 _ _ _ c.loop-j.invariant c.loop-j-test.false _ c.store_collection-2.auto.s c.store_collection-2.ensures
+    shift_end _ _ _ _ c.requires.0 c.requires.1 c.requires.2 c.requires.3 _ _ _ c.loop-j.invariant c.loop-j-test.false _ c.put_row-2.auto.s c.put_row-2.ensures

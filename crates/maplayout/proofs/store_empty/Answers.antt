@@ -3,4 +3,4 @@ use Rattle.maplayout.proofs.Added.{stored_empty}
 use Rattle.maplayout.proofs.store_empty.Goals as goal
 
 pub returns : goal.returns
-returns c = stored_empty _ _ c.store_three.ensures
+returns c = stored_empty _ _ c.store_words.ensures

@@ -16,4 +16,4 @@ returns c =
     let w = c.requires.1 in
     stored_of (rows k) _ _ _ _ _ _ _ _ (sym (length-take-le _ k.devices (omega arith)))
     (sym (length-take-le _ k.collections (omega arith))) (sym (length-take-le _ k.events (omega arith)))
-    c.store_events.ensures c.store_collections.ensures c.store_devices.ensures c.store_three.ensures
+    c.store_rows.ensures c.store_rows-2.ensures c.store_rows-3.ensures c.store_words.ensures

@@ -1,10 +1,6 @@
 -- `restore::device_fault` meets its contract. Assumes nothing.
-use Rattle.restore.proofs.Over.{guest_counted, counted}
 use Rattle.restore.proofs.Devices.{memory_loaded, fault_next_lem, fault_size_lem, fault_full, fault_outside_lem, fault_struck, fault_none}
 use Rattle.restore.proofs.device_fault.Goals as goal
-
-pub device_count-n-requires : goal.device_count-n-requires
-device_count-n-requires c = counted c.requires.over
 
 pub returns-then-not-leads : goal.returns-then-not-leads
 returns-then-not-leads c = fault_next_lem _ _ _ _ (c.if-not-leads.true)
@@ -15,9 +11,6 @@ returns-then-bits-gt-MAX_BITS c = fault_size_lem _ _ _ _ (c.if-not-leads.false) 
 pub returns-then-n-ge-MAX_DEVICES : goal.returns-then-n-ge-MAX_DEVICES
 returns-then-n-ge-MAX_DEVICES c =
     fault_full _ _ _ _ (c.if-not-leads.false) c.if-bits-gt-MAX_BITS.false _ c.device_count-n.ensures c.if-n-ge-MAX_DEVICES.true
-
-pub load_memory-requires : goal.load_memory-requires
-load_memory-requires c = (guest_counted c.requires.over).long
 
 pub returns-then-not-inside : goal.returns-then-not-inside
 returns-then-not-inside c =

@@ -1,21 +1,12 @@
 -- `restore::take_collection` meets its contract. Assumes nothing.
 use native.Mathlib.Omega.{arith}
-use Rattle.restore.proofs.Over.{guest_counted, counted}
+use Rattle.restore.proofs.Over.{counted}
 use Rattle.restore.proofs.Collections.{place_fits, collection_high, collection_again, collection_full, collection_new}
 use Rattle.restore.proofs.take_collection.Goals as goal
-
-pub vcpu_count-requires : goal.vcpu_count-requires
-vcpu_count-requires c = guest_counted c.requires.0.over
 
 pub returns-then-vcpu_count-e : goal.returns-then-vcpu_count-e
 returns-then-vcpu_count-e c =
     collection_high _ _ _ _ _ c.entry_at.ensures c.collection_entry-e.ensures _ c.vcpu_count.ensures c.if-vcpu_count-e.true
-
-pub collection_count-n-requires : goal.collection_count-n-requires
-collection_count-n-requires c = counted c.requires.0.over
-
-pub find_collection-requires : goal.find_collection-requires
-find_collection-requires c = counted c.requires.0.over
 
 pub returns-then-find_collection-n : goal.returns-then-find_collection-n
 returns-then-find_collection-n c =
@@ -26,9 +17,6 @@ pub returns-then-n-ge-MAX_COLLECTIONS : goal.returns-then-n-ge-MAX_COLLECTIONS
 returns-then-n-ge-MAX_COLLECTIONS c =
     collection_full _ _ _ _ _ c.entry_at.ensures c.collection_entry-e.ensures _ c.vcpu_count.ensures c.if-vcpu_count-e.false
     _ _ c.find_collection.ensures c.collection_count-n.ensures c.if-find_collection-n.false c.if-n-ge-MAX_COLLECTIONS.true
-
-pub place_collection-place-requires : goal.place_collection-place-requires
-place_collection-place-requires c = counted c.requires.0.over
 
 pub insert_collection-requires : goal.insert_collection-requires
 insert_collection-requires c =

@@ -17,22 +17,10 @@ pub returns-then-not-good : goal.returns-then-not-good
 returns-then-not-good c =
     event_lost _ _ _ _ _ _ _ c.entry_at.ensures c.event_entry-e.ensures c.if-lpi-lt-FIRST_LPI.false c.if-lpi-gt-LAST_LPI.false (c.if-not-good.true)
 
-pub collection_count-requires : goal.collection_count-requires
-collection_count-requires c =
-    counted c.requires.0.over
-
-pub find_collection-requires : goal.find_collection-requires
-find_collection-requires c =
-    counted c.requires.0.over
-
 pub returns-then-collection_count-find_collection : goal.returns-then-collection_count-find_collection
 returns-then-collection_count-find_collection c =
     event_astray _ _ _ _ _ _ _ c.entry_at.ensures c.event_entry-e.ensures c.if-lpi-lt-FIRST_LPI.false c.if-lpi-gt-LAST_LPI.false (c.if-not-good.false)
     _ _ c.find_collection.ensures c.collection_count.ensures c.if-collection_count-find_collection.true
-
-pub event_count-requires : goal.event_count-requires
-event_count-requires c =
-    counted c.requires.0.over
 
 pub returns-then-event_count-ge-MAX_EVENTS : goal.returns-then-event_count-ge-MAX_EVENTS
 returns-then-event_count-ge-MAX_EVENTS c =

@@ -1,5 +1,5 @@
 -- `rules::with_regions` meets its contract. The loop's invariant: the regions passed stand behind what stood. Assumes nothing.
-use Prim.Native.Nat.{◌+◌, ◌≤◌, ◌-◌}
+use Prim.Native.Nat.{◌+◌}
 use mathlib.Core.Path.{◌≡◌}
 use lib.ListN.{take}
 use mathlib.Core.List.{◌++◌, map}
@@ -7,8 +7,6 @@ use Rattle.areas.specs.Area.{areas}
 use Rattle.rules.specs.Standing.{region_area}
 use Rattle.rules.proofs.with_regions.Given as goal
 
-abbrev pub invariant-loop-i : goal.invariant-loop-i
-invariant-loop-i l = (l.i ≤ l.n) × (l.next.count ≡ l.initial.next.count + l.i) × (areas l.next ≡ areas l.initial.next ++ map region_area (take l.i l.r.rows))
-
-abbrev pub decreases-loop-i : goal.decreases-loop-i
-decreases-loop-i l = l.n - l.i
+abbrev pub invariant-loop-row : goal.invariant-loop-row
+invariant-loop-row l =
+    (l.next.count ≡ l.initial.next.count + l.row-index) × (areas l.next ≡ areas l.initial.next ++ map region_area (take l.row-index l.row-items))

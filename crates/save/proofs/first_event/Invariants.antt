@@ -1,5 +1,4 @@
 -- `save::first_event` meets its contract. Assumes nothing.
-use Prim.Native.Nat.{◌-◌}
 use lib.Dec.{leb}
 use Rattle.mapping.specs.Mapped.{no_event}
 use Rattle.mapping.proofs.Table.{Seeking}
@@ -9,6 +8,3 @@ use Rattle.save.proofs.first_event.Given as goal
 
 abbrev pub invariant-loop-j : goal.invariant-loop-j
 invariant-loop-j l = Seeking (λ x. leb l.id (event_device x)) no_event l.n (decode_map l.s).events l.j
-
-abbrev pub decreases-loop-j : goal.decreases-loop-j
-decreases-loop-j l = l.n - l.j

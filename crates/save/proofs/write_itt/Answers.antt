@@ -6,14 +6,14 @@ pub first_event-to-requires : goal.first_event-to-requires
 first_event-to-requires c =
     (c.requires.0, first_before _ _ _ c.first_event-from.ensures)
 
-pub write_events-requires : goal.write_events-requires
-write_events-requires c = (
+pub write_chain-requires : goal.write_chain-requires
+write_chain-requires c = (
   c.requires.0,
   events_ready _ _ _ _ _ c.requires.1.events c.first_event-from.ensures c.first_event-to.ensures c.itt_entries.ensures _ _ c.requires.1.itt,
 )
 
 pub returns : goal.returns
 returns c = (
-  itt_saved _ c.args.d _ _ _ c.requires.1.events c.first_event-from.ensures c.first_event-to.ensures c.itt_entries.ensures _ _ _ c.write_events.ensures,
+  itt_saved _ c.args.d _ _ _ c.requires.1.events c.first_event-from.ensures c.first_event-to.ensures c.itt_entries.ensures _ _ _ c.write_chain.ensures,
   c.first_event-to.ensures,
 )

@@ -2,14 +2,13 @@ use Rattle.calls.proofs.Boxes.{reset_width, reset_early, reset_running, reset_do
 use Rattle.calls.proofs.commands.reset.Goals as goal
 
 pub returns-then-width-ne0 : goal.returns-then-width-ne0
-returns-then-width-ne0 c = reset_width _ _ _ c.if-width-ne0.true c.refused.ensures
+returns-then-width-ne0 c = reset_width _ _ _ c.if-width-ne0.true
 
 pub returns-then-g-ne1 : goal.returns-then-g-ne1
-returns-then-g-ne1 c = reset_early _ _ _ c.if-width-ne0.false c.if-g-ne1.true c.refused-then-g-ne1.ensures
+returns-then-g-ne1 c = reset_early _ _ _ c.if-width-ne0.false c.if-g-ne1.true
 
 pub returns-then-g-eq1 : goal.returns-then-g-eq1
-returns-then-g-eq1 c =
-    reset_running _ _ _ c.if-width-ne0.false c.if-g-ne1.false c.if-g-eq1.true c.refused-then-g-eq1.ensures
+returns-then-g-eq1 c = reset_running _ _ _ c.if-width-ne0.false c.if-g-ne1.false c.if-g-eq1.true
 
 pub returns : goal.returns
 returns c =

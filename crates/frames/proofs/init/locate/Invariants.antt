@@ -1,13 +1,9 @@
 -- `frames::init::locate` meets its contract. The loop's invariant: what is left of the regions has what is left of the number where
 -- the regions have it. Assumes nothing.
-use Prim.Native.Nat.{◌≤◌, ◌-◌}
 use mathlib.Core.Path.{◌≡◌}
-use lib.ListN.{take, drop}
+use lib.ListN.{drop}
 use Rattle.frames.specs.Init.{locate}
 use Rattle.frames.proofs.init.locate.Given as goal
 
-abbrev pub invariant-loop-i : goal.invariant-loop-i
-invariant-loop-i l = (l.i ≤ l.n) × (locate (drop l.i (take l.n l.t.rows)) l.left ≡ locate (take l.n l.t.rows) l.k)
-
-abbrev pub decreases-loop-i : goal.decreases-loop-i
-decreases-loop-i l = l.n - l.i
+abbrev pub invariant-loop-r : goal.invariant-loop-r
+invariant-loop-r l = locate (drop l.r-index l.r-items) l.left ≡ locate l.r-items l.k

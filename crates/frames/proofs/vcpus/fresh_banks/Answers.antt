@@ -1,10 +1,6 @@
 -- `frames::vcpus::fresh_banks` meets its contract. Assumes nothing.
-use native.Mathlib.Omega.{arith}
 use Rattle.frames.proofs.Rows.{few_banks, take_replicate}
 use Rattle.frames.proofs.vcpus.fresh_banks.Goals as goal
-
-pub overflow_sub-result : goal.overflow_sub-result
-overflow_sub-result c = let f = few_banks c.args.irqs c.requires in omega (arith, f.0)
 
 pub returns : goal.returns
 returns c =

@@ -1,23 +1,23 @@
-use mathlib.Core.Path.{ap, ◌∙◌}
+use mathlib.Core.Path.{◌≡◌, refl, ap, ◌∙◌}
+use Rattle.std.proofs.Common.{rules, Err}
+use Rattle.answers.specs.Number.{number}
 use Rattle.guest.specs.Machine.{view}
+use Rattle.guest.proofs.Returned.{number_not_0, does_refuse, does_accept}
 use Rattle.irqs.specs.Registers.{distributor_register}
-use Rattle.irqs.proofs.IrqLaws.{does_refuse, does_accept}
 use Rattle.irqs.proofs.GroupLaws.{set1_refused, set1_done}
 use Rattle.irqs.proofs.groups.set_group1.Goals as goal
 
-pub returns-then-e-ne0 : goal.returns-then-e-ne0
-returns-then-e-ne0 c =
+pub returns-in_err-register_fault : goal.returns-in_err-register_fault
+returns-in_err-register_fault c =
+    let f = c.in_err-register_fault in
+    let e = f.field-0.0 in
     let r = c.distributor_register-register in
-    let f = c.register_fault-e in
-    does_refuse c.args.g c.refused.result f.result c.requires c.refused.ensures
-    (set1_refused c.args.attribute c.args.width (view c.args.g) r.result f.result
-    (r.ensures.is ∙ ap distributor_register c.offset_of.ensures) f.ensures c.args.value c.if-e-ne0.true)
+    let back : c.from_residual.result ≡ Err e = search rules in
+    does_refuse (view c.args.g) back (set1_refused c.args.attribute c.args.width (view c.args.g) r.result (number e) (r.ensures.is ∙ ap distributor_register c.offset_of.ensures) f.ensures c.args.value (number_not_0 e))
 
 pub returns : goal.returns
 returns c =
     let r = c.distributor_register-register in
-    let f = c.register_fault-e in
     let w = c.distributor_write in
-    rw (set1_done c.args.attribute c.args.width (view c.args.g) r.result f.result
-    (r.ensures.is ∙ ap distributor_register c.offset_of.ensures) f.ensures c.args.value c.if-e-ne0.false)
-    (does_accept w.result c.accepted.result _ w.ensures c.accepted.ensures)
+    does_accept (view c.args.g) w.result w.ensures.is w.ensures.held
+    (set1_done c.args.attribute c.args.width (view c.args.g) r.result 0 (r.ensures.is ∙ ap distributor_register c.offset_of.ensures) c.in_ok-register_fault.ensures c.args.value refl)

@@ -1,33 +1,19 @@
 -- `restore::places::strikes_itts` meets its contract. Assumes nothing.
 use native.Mathlib.Omega.{arith}
-use mathlib.Core.Path.{◌∙◌}
+use mathlib.Core.Path.{refl}
+use lib.ListN.{get_or}
+use borrow.Author.Rules.{rules}
+use borrow.Author.Tests.{tests}
+use Rattle.std.proofs.lemmas.Iterator.{YieldsList-from_range}
+use Rattle.std.proofs.lemmas.Iterator.Search.{any_from_yields_List}
 use Rattle.mapping.specs.Mapped.{no_device}
-use Rattle.mapping.proofs.Table.{seek_start, seek_turn}
 use Rattle.maplayout.specs.MapLayout.{decode_map}
-use Rattle.restore.proofs.Searches.{met, itts_struck, itts_clear, bits_few}
+use Rattle.restore.proofs.Searches.{meets, itts_met}
 use Rattle.restore.proofs.places.strikes_itts.Goals as goal
-
-pub loop-i-init : goal.loop-i-init
-loop-i-init c = seek_start _ _ _ _ (omega (arith, c.device_count-n.ensures))
-
-pub device_at-d-requires : goal.device_at-d-requires
-device_at-d-requires c =
-    (c.requires.0, omega (arith, c.device_count-n.ensures, c.loop-i-test.true))
-
-pub itt_area-requires : goal.itt_area-requires
-itt_area-requires c =
-    bits_few _ c.args.a _ (omega (arith, c.device_count-n.ensures, c.loop-i-test.true)) c.requires.1 _ c.device_at-d.ensures
-
-pub returns-then-overlaps : goal.returns-then-overlaps
-returns-then-overlaps c =
-    itts_struck _ _ _ _ c.device_count-n.ensures c.loop-i.invariant c.loop-i-test.true
-    (met (decode_map c.args.s.now).devices _ c.loop-i.i _ _ _ c.device_at-d.ensures c.itt_area.ensures c.overlaps.ensures ∙ c.if-overlaps.true)
-
-pub loop-i-preserved : goal.loop-i-preserved
-loop-i-preserved c =
-    seek_turn _ no_device _ _ _ c.loop-i.invariant c.loop-i-test.true
-    (met (decode_map c.args.s.now).devices _ c.loop-i.i _ _ _ c.device_at-d.ensures c.itt_area.ensures c.overlaps.ensures ∙ c.if-overlaps.false)
 
 pub returns : goal.returns
 returns c =
-    itts_clear _ _ _ _ c.device_count-n.ensures c.loop-i.invariant c.loop-i-test.false
+    let rows = (decode_map c.args.s.now).devices in
+    let n = c.device_count-n.result in
+    itts_met rows c.args.a n c.device_count-n.ensures c.any.result
+    (any_from_yields_List (λ i. meets rows c.args.a (get_or rows i no_device)) _ _ c.any.result c.any.ensures.ran (YieldsList-from_range 0 n n refl (omega arith)) (λ x b q k. search (rules, tests)))

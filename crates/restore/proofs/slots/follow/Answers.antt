@@ -5,29 +5,29 @@ use Rattle.restore.proofs.Both.{leads_last, leads_out, leads_near, leads_blank, 
 use Rattle.restore.proofs.slots.follow.Goals as goal
 
 pub returns-then-next-eq0 : goal.returns-then-next-eq0
-returns-then-next-eq0 c =
-    leads_last _ _ _ _ _ c.entry_at.ensures c.next_of-next.ensures c.if-next-eq0.true
+returns-then-next-eq0 g c =
+    leads_last _ _ _ _ _ c.entry_at.ensures c.next-next.ensures c.if-next-eq0.true
 
 pub returns-then-n-i : goal.returns-then-n-i
-returns-then-n-i c =
-    leads_out _ _ _ _ _ c.entry_at.ensures c.next_of-next.ensures c.if-next-eq0.false (omega (arith, c.if-n-i.true))
+returns-then-n-i g c =
+    leads_out _ _ _ _ _ c.entry_at.ensures c.next-next.ensures c.if-next-eq0.false (omega (arith, c.if-n-i.true))
 
-pub returns-then-valid_of : goal.returns-then-valid_of
-returns-then-valid_of c =
-    leads_near _ _ _ _ _ c.entry_at.ensures c.next_of-next.ensures c.if-next-eq0.false (omega (arith, c.if-n-i.false))
-    (sym c.is_exact.ensures ∙ c.if-is_exact.true) _ _ c.entry_at-then-is_exact.ensures c.valid_of.ensures c.if-valid_of.true
+pub returns-then-valid : goal.returns-then-valid
+returns-then-valid g c =
+    leads_near _ _ _ _ _ c.entry_at.ensures c.next-next.ensures c.if-next-eq0.false (omega (arith, c.if-n-i.false))
+    (sym c.is_exact.ensures ∙ c.if-is_exact.true) _ _ c.entry_at-then-is_exact.ensures c.valid.ensures c.if-valid.true
 
 pub returns-then-is_exact : goal.returns-then-is_exact
-returns-then-is_exact c =
-    leads_blank _ _ _ _ _ c.entry_at.ensures c.next_of-next.ensures c.if-next-eq0.false (omega (arith, c.if-n-i.false))
-    (sym c.is_exact.ensures ∙ c.if-is_exact.true) _ _ c.entry_at-then-is_exact.ensures c.valid_of.ensures c.if-valid_of.false
+returns-then-is_exact g c =
+    leads_blank _ _ _ _ _ c.entry_at.ensures c.next-next.ensures c.if-next-eq0.false (omega (arith, c.if-n-i.false))
+    (sym c.is_exact.ensures ∙ c.if-is_exact.true) _ _ c.entry_at-then-is_exact.ensures c.valid.ensures c.if-valid.false
 
 pub returns-then-k-n : goal.returns-then-k-n
-returns-then-k-n c =
-    leads_far _ _ _ _ _ c.entry_at.ensures c.next_of-next.ensures c.if-next-eq0.false (omega (arith, c.if-n-i.false))
+returns-then-k-n g c =
+    leads_far _ _ _ _ _ c.entry_at.ensures c.next-next.ensures c.if-next-eq0.false (omega (arith, c.if-n-i.false))
     (sym c.is_exact.ensures ∙ c.if-is_exact.false) _ c.first_from-k.ensures c.if-k-n.true
 
 pub returns : goal.returns
-returns c =
-    leads_none _ _ _ _ _ c.entry_at.ensures c.next_of-next.ensures c.if-next-eq0.false (omega (arith, c.if-n-i.false))
+returns g c =
+    leads_none _ _ _ _ _ c.entry_at.ensures c.next-next.ensures c.if-next-eq0.false (omega (arith, c.if-n-i.false))
     (sym c.is_exact.ensures ∙ c.if-is_exact.false) _ c.first_from-k.ensures c.if-k-n.false

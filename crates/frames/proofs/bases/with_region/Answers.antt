@@ -1,8 +1,0 @@
--- `frames::bases::with_region` meets its contract. Assumes nothing.
-use native.Mathlib.Omega.{arith}
-use borrow.Author.Rules.{rules}
-use Rattle.frames.proofs.Rows.{pushed}
-use Rattle.frames.proofs.bases.with_region.Goals as goal
-
-pub returns : goal.returns
-returns c = (pushed _ _ 32 _ (search rules) c.requires, omega (arith, c.requires))

@@ -1,7 +1,0 @@
--- `keeps::banks::fresh_bank` meets its contract. Assumes nothing.
-use Rattle.rules.specs.Rules.{fresh_bank}
-use Rattle.keeps.proofs.banks.fresh_bank.Goals as goal
-
-pub returns : goal.returns
-unfolding fresh_bank
-returns c = c.is_fresh.ensures

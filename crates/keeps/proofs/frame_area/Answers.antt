@@ -1,9 +1,0 @@
--- `keeps::frame_area` meets its contract. Assumes nothing.
-use borrow.Author.Tests.{eq-eqb, ne_eqb}
-use Rattle.keeps.proofs.frame_area.Goals as goal
-
-pub returns-then-f-eq1 : goal.returns-then-f-eq1
-returns-then-f-eq1 c = rw (eq-eqb _ _ c.if-f-eq1.true)
-
-pub returns : goal.returns
-returns c = rw (ne_eqb _ _ c.if-f-eq1.false)

@@ -1,0 +1,11 @@
+-- `listing::CollectionLine::put` meets its contract. Assumes nothing.
+use native.Mathlib.Omega.{arith}
+use mathlib.Core.List.{append_assoc}
+use Rattle.lines.proofs.Laws.{adds_both, adds_as}
+use Rattle.listing.specs.Listing.{collection_line}
+use Rattle.listing.proofs.CollectionLine.put.Goals as goal
+
+pub returns : goal.returns
+unfolding collection_line
+returns c =
+    adds_as (adds_both c.put_decimal.ensures c.put_decimal-2.ensures) (simp append_assoc) (omega arith)

@@ -1,0 +1,11 @@
+-- `listing::EventLine::put` meets its contract. Assumes nothing.
+use native.Mathlib.Omega.{arith}
+use mathlib.Core.List.{append_assoc}
+use Rattle.lines.proofs.Laws.{adds_both, adds_as}
+use Rattle.listing.specs.Listing.{event_line}
+use Rattle.listing.proofs.EventLine.put.Goals as goal
+
+pub returns : goal.returns
+unfolding event_line
+returns c =
+    adds_as (adds_both (adds_both (adds_both c.put_decimal.ensures c.put_decimal-2.ensures) c.put_decimal-3.ensures) c.put_decimal-4.ensures) (simp append_assoc) (omega arith)

@@ -1,5 +1,0 @@
-use Rattle.ritikancha.proofs.Asked.{word_asked}
-use Rattle.ritikancha.proofs.rk_xics_get_server.Goals as goal
-
-pub give-requires : goal.give-requires
-give-requires c = rw c.ask_word-r.ensures (word_asked _ _ _ _)
