@@ -53,6 +53,10 @@ untold e = record { errno = e; number = 0 }
 unfoldable pub asks : Question → List ℕ → Reading
 asks q s = guarded untold (ask_step q (decode s)) s
 
+-- Inner: what a question came to, by its errno and its number
+abbrev pub read_as : ℕ → ℕ → Reading
+read_as e n = record { errno = e; number = n }
+
 -- §2.1, §2.3: a question for a number answers that number, or is refused
 abbrev pub answered : Reading → ℤ
 answered r = choose (eqb r.errno 0) (done r.number) (refusal r.errno)

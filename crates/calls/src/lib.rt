@@ -15,7 +15,7 @@ ghost use Rattle.state.specs.Sound.{sound};
 ghost use Rattle.mapping.specs.Mapped.{rows, Within};
 ghost use Rattle.mapping.specs.MapRules.{MapKept};
 ghost use Rattle.calls.specs.Commands.{BoxDoes, command_step};
-ghost use Rattle.calls.specs.Call.{guarded, changes, asks, set_up, value_of, given, answered, Gives};
+ghost use Rattle.calls.specs.Call.{guarded, changes, asks, set_up, value_of, given, answered, read_as, Gives};
 ghost use Rattle.calls.specs.Signed.{signed};
 ghost use Rattle.calls.specs.Call.{commands, looks, saves, restores, Explains};
 
@@ -136,13 +136,22 @@ fn check(s: &[u8]) -> Result<(), Errno>
     Ok(())
 }
 
+// A change of a state that was tested. A function of its own in the machine's code too, so that a refusal by the test clears no room for a guest.
+#[inline(never)]
+fn apply_tested(state: &mut [u8], c: Change) -> Result<(), Errno>
+    requires { 0 ≡ guarded (λ e. e) 0 state.old }
+    ensures { Gives (changes c state.old) (signed result) state.new }
+{
+    let next = step(layout::load_guest(state), c)?;
+    layout::store_guest(state, next);
+    Ok(())
+}
+
 pub fn apply(state: &mut [u8], c: Change) -> Result<(), Errno>
     ensures { Gives (changes c state.old) (signed result) state.new }
 {
     check(state)?;
-    let next = step(layout::load_guest(state), c)?;
-    layout::store_guest(state, next);
-    Ok(())
+    apply_tested(state, c)
 }
 
 pub fn ask(state: &[u8], q: Question) -> Result<u64, Errno>
@@ -189,6 +198,18 @@ pub fn give(value: &mut [u8], r: Result<u64, Errno>) -> Result<(), Errno>
     Ok(())
 }
 
+// The same of the errno and the number that a question came to, of any errno below 4,096; 0 is none.
+pub fn give_number(value: &mut [u8], errno: u64, number: u64) -> i64
+    requires { errno < 4096 }
+    ensures { Gives (given (read_as errno number) value.old) result value.new }
+{
+    if errno != 0 {
+        return answers::refuse(errno);
+    }
+    words::fill(value, number);
+    0
+}
+
 // What a question for a number came to, as the C interface has it (§2.1).
 pub fn tell(r: Result<u64, Errno>) -> i64
     requires { IfOk r (λ n. n < 2 ^ 63) }
@@ -198,6 +219,17 @@ pub fn tell(r: Result<u64, Errno>) -> i64
         Ok(n) => answers::done(n),
         Err(e) => e.refusal(),
     }
+}
+
+// The same of the errno and the number, of any errno below 4,096; 0 is none.
+pub fn tell_number(errno: u64, number: u64) -> i64
+    requires { (errno < 4096) × (number < 2 ^ 63) }
+    ensures { result ≡ answered (read_as errno number) }
+{
+    if errno != 0 {
+        return answers::refuse(errno);
+    }
+    answers::done(number)
 }
 
 // What a call that answers no number came to, likewise.
@@ -283,6 +315,16 @@ pub fn save(state: &[u8], mem: &mut [u8]) -> Result<(), Errno>
     Ok(())
 }
 
+// A copy of a state. The slice has its length in the text, so that the compiler need not clear the copy before it fills it.
+fn copy_of(s: &[u8]) -> [u8; 11400]
+    requires { length s.now ≡ size }
+    ensures { result ≡ s.now }
+{
+    let mut copy = [0; 11400];
+    copy.copy_from_slice(&s[..11400]);
+    copy
+}
+
 // Reads the mapping from the tables in the lent memory, which stays, into a copy of the state: a restore that is refused half way
 // leaves the state as it was. Nothing but the mapping changes.
 pub fn restore(state: &mut [u8], mem: &[u8]) -> Result<(), Errno>
@@ -290,8 +332,7 @@ pub fn restore(state: &mut [u8], mem: &[u8]) -> Result<(), Errno>
 {
     check(state)?;
     commands::memory_fault(state, mem.len() as u64)?;
-    let mut next = [0; 11400];
-    next.copy_from_slice(state);
+    let mut next = copy_of(state);
     restore::restore_tables(&mut next, mem)?;
     state.copy_from_slice(&next);
     Ok(())
@@ -303,7 +344,6 @@ pub fn explain(state: &[u8], mem: &[u8]) -> Result<u64, Errno>
 {
     check(state)?;
     commands::memory_fault(state, mem.len() as u64)?; // no code, but a refusal
-    let mut next = [0; 11400];
-    next.copy_from_slice(state);
+    let mut next = copy_of(state);
     Ok(codes::code_of(restore::read_tables(&mut next, mem)))
 }

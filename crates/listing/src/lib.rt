@@ -10,7 +10,7 @@ use arrayvec::ArrayVec;
 use mapping::{Collection, Device, Event, Mapping};
 
 // The bytes of the longest listing.
-const ROOM: usize = 88666;
+pub const ROOM: usize = 88666;
 
 // A text with room for it.
 pub type Text = ArrayVec<u8, ROOM>;
@@ -80,13 +80,23 @@ fn put_table<T: Line>(out: &mut Text, name: &[u8], rows: &[T])
 
 // The whole mapping. 33 bytes for the heading of the collections and 42 for each of 16, 29 for that of the devices and 59 for each of 32,
 // 28 for that of the events and 84 for each of 1,024.
+// The text is lent: one that was handed back would be copied, all of its room, at each return.
+pub fn fill_text(k: &Mapping, out: &mut Text)
+    requires { Within k.now }
+    ensures { out.new.items ≡ listing (rows k.now) }
+{
+    out.clear();
+    put_table(out, b"collections ", &k.collections[..k.ncollections]);
+    put_table(out, b"devices ", &k.devices[..k.ndevices]);
+    put_table(out, b"events ", &k.events[..k.nevents]);
+}
+
+// The same as a text of its own.
 pub fn mapping_text(k: &Mapping) -> Text
     requires { Within k.now }
     ensures { result.items ≡ listing (rows k.now) }
 {
     let mut out = Text::new();
-    put_table(&mut out, b"collections ", &k.collections[..k.ncollections]);
-    put_table(&mut out, b"devices ", &k.devices[..k.ndevices]);
-    put_table(&mut out, b"events ", &k.events[..k.nevents]);
+    fill_text(k, &mut out);
     out
 }

@@ -1,5 +1,5 @@
 -- A fault as text, and the fault of a code.
-use Rattle.std.specs.Prelude.{ℕ, List, ◌++◌, eqb}
+use Rattle.std.specs.Prelude.{ℕ, List, ◌++◌, ◌+◌, ◌≡◌, ◌≤◌, eqb, take}
 use Rattle.lists.specs.Rows.{choose}
 use Rattle.fields.specs.Field.{get_field}
 use Rattle.tables.specs.Fault.{
@@ -71,3 +71,8 @@ fault_of c = at (place_in (get_field c 32 8) (get_field c 16 16) (get_field c 0 
 -- Inner: no fault's text is longer: 62 bytes of an ITT and its entry, 2 of the colon and the space, 27 of the longest name
 abbrev pub fault_room : ℕ
 fault_room = 91
+
+-- Inner: text put into a buffer from an index on: what stands before it stays, and the index after it, at most a room further, is handed back
+pub record Puts (before : List ℕ) (at : ℕ) (text : List ℕ) (room : ℕ) (after : List ℕ) (r : ℕ) : Type 0 where
+  pub is : take r after ≡ take at before ++ text
+  pub most : r ≤ at + room

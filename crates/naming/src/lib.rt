@@ -4,7 +4,7 @@
 ghost use Rattle.std.specs.Prelude.{◌≡◌, ◌+◌, ◌≤◌, length, ◌++◌};
 ghost use Rattle.codes.specs.Codes.{kind_is, place_is, fault_is};
 ghost use Rattle.lines.specs.Text.{ascii, Adds};
-ghost use Rattle.naming.specs.Naming.{kind_text, place_text, fault_text, kind_of, place_in, fault_of, fault_room};
+ghost use Rattle.naming.specs.Naming.{kind_text, place_text, fault_text, kind_of, place_in, fault_of, fault_room, Puts};
 
 use arrayvec::ArrayVec;
 use codes::{Fault, Kind, Place};
@@ -89,10 +89,15 @@ fn fault_of(code: u64) -> Fault
     }
 }
 
-// The fault of a code. Any number is one: what no code has is read as kind_of and place_in of specs/Naming.antt say.
-pub fn put_fault<const N: usize>(out: &mut ArrayVec<u8, N>, code: u64)
-    requires { length out.old.items + fault_room ≤ N }
-    ensures { Adds out.old.items (fault_text (fault_of code)) fault_room out.new.items }
+// The fault of a code, put into a buffer from an index on, and the index after it handed back. Any number is a code: what no fault has is read
+// as kind_of and place_in of specs/Naming.antt say.
+pub fn put_fault(out: &mut [u8], at: usize, code: u64) -> usize
+    requires { at + fault_room ≤ length out.old }
+    ensures { Puts out.old at (fault_text (fault_of code)) fault_room out.new result }
 {
-    put_met(out, fault_of(code));
+    let mut text = ArrayVec::<u8, 91>::new();
+    put_met(&mut text, fault_of(code));
+    let end = at + text.len();
+    out[at..end].copy_from_slice(text.as_slice());
+    end
 }

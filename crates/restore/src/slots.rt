@@ -50,7 +50,9 @@ pub fn entry_at(t: &[u8], i: usize) -> u64
     words::get64(t, i * ENTRY)
 }
 
-// The first entry that is there, from `from` on, or the number of entries.
+// The first entry that is there, from `from` on, or the number of entries. A function of its own in the machine's code too: where it is put
+// into a caller, what the caller answers without an entry is set anew at every blank.
+#[inline(never)]
 fn first_from<T: Chained>(t: &[u8], from: usize) -> usize
     requires { from ≤ length t.now / 8 }
     ensures { result ≡ first_from (slots_of T.device t.now) from }

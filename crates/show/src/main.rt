@@ -4,9 +4,16 @@
 
 mod text;
 
+// A function of its own, so that the text is cleared once.
+fn show_bytes(rt: &HostRuntime, bytes: &[u8]) {
+    let mut out = listing::Text::new();
+    text::show_image(bytes, &mut out);
+    image::input::write_text(rt, out.as_slice());
+}
+
 fn main(rt: HostRuntime) {
     let mut buffer = [0u8; image::input::MOST];
     if let Ok(n) = image::input::read_image(&rt, &mut buffer) {
-        image::input::write_text(&rt, text::show_image(&buffer[..n]).as_slice());
+        show_bytes(&rt, &buffer[..n]);
     }
 }

@@ -6,24 +6,25 @@ ghost use Rattle.show.specs.Shown.{refusal, shown};
 use answers::Errno;
 use listing::Text;
 
-fn refusal_text(errno: Errno) -> Text
-    ensures { result.items ≡ refusal (number errno) }
+fn put_refusal(out: &mut Text, errno: Errno)
+    ensures { out.new.items ≡ refusal (number errno) }
 {
-    let mut out = Text::new();
-    lines::put_line(&mut out, b"refused -", errno.number());
-    out
+    out.clear();
+    lines::put_line(out, b"refused -", errno.number());
 }
 
-pub fn show_image(bytes: &[u8]) -> Text
-    ensures { result.items ≡ shown bytes.now }
+// The text is lent (listing::fill_text says why).
+pub fn show_image(bytes: &[u8], out: &mut Text)
+    ensures { out.new.items ≡ shown bytes.now }
 {
     if !image::is_image(bytes.len()) {
-        return refusal_text(Errno::EFAULT);
+        put_refusal(out, Errno::EFAULT);
+        return;
     }
     let mut state = [0u8; image::STATE];
     image::store_guest_of(&mut state, bytes.len() as u64);
     match restore::restore_tables(&mut state, bytes) {
-        Ok(()) => listing::mapping_text(&maplayout::load_mapping(&state)),
-        Err(errno) => refusal_text(errno),
+        Ok(()) => listing::fill_text(&maplayout::load_mapping(&state), out),
+        Err(errno) => put_refusal(out, errno),
     }
 }

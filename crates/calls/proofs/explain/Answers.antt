@@ -11,6 +11,9 @@ returns-in_err-check c =
     let back : c.from_residual.result ≡ Err e = search rules in
     explain_refuses _ _ e back c.in_err-check.ensures
 
+pub copy_of-next-requires : goal.copy_of-next-requires
+copy_of-next-requires c = (checked _ c.in_ok-check.ensures).0
+
 pub memory_fault-requires : goal.memory_fault-requires
 memory_fault-requires c = (checked _ c.in_ok-check.ensures).0
 

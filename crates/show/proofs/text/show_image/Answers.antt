@@ -8,7 +8,7 @@ use Rattle.show.proofs.text.show_image.Goals as goal
 
 pub returns-then-not-is_image : goal.returns-then-not-is_image
 returns-then-not-is_image c =
-    c.refusal_text.ensures ∙ shown_no_image _ (sym c.is_image.ensures ∙ c.if-not-is_image.true)
+    c.put_refusal.ensures ∙ shown_no_image _ (sym c.is_image.ensures ∙ c.if-not-is_image.true)
 
 pub restore_tables-requires : goal.restore_tables-requires
 restore_tables-requires c =
@@ -23,10 +23,10 @@ load_mapping-requires c =
 pub returns-in-Ok : goal.returns-in-Ok
 returns-in-Ok c =
     let e = sym c.is_image.ensures ∙ c.if-not-is_image.false in
-    c.mapping_text.ensures
+    c.fill_text.ensures
     ∙ shown_rows _ e _ (search rules) _ c.store_guest_of.ensures _ _ c.restore_tables.ensures (ap returned.fault c.in-Ok.is) _ c.load_mapping.ensures.0
 
 pub returns-in-Err : goal.returns-in-Err
 returns-in-Err c =
     let e = sym c.is_image.ensures ∙ c.if-not-is_image.false in
-    c.refusal_text-in-Err.ensures ∙ shown_fault _ e _ (search rules) _ c.store_guest_of.ensures _ _ c.restore_tables.ensures _ c.in-Err.is
+    c.put_refusal-in-Err.ensures ∙ shown_fault _ e _ (search rules) _ c.store_guest_of.ensures _ _ c.restore_tables.ensures _ c.in-Err.is
