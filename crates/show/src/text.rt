@@ -13,7 +13,9 @@ fn put_refusal(out: &mut Text, errno: Errno)
     lines::put_line(out, b"refused -", errno.number());
 }
 
-// The text is lent (listing::fill_text says why).
+// The text is lent (listing::fill_text says why). A function of its own in the machine's code too, so that what it needs of the stack is not
+// kept beside the name of the file.
+#[inline(never)]
 pub fn show_image(bytes: &[u8], out: &mut Text)
     ensures { out.new.items ≡ shown bytes.now }
 {
